@@ -1,0 +1,3 @@
+pub mod Names
+pub mod Listings
+pub mod Rows
