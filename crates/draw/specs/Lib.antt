@@ -1,2 +1,3 @@
-pub mod Words
+pub mod Selections
 pub mod Sources
+pub mod Words
