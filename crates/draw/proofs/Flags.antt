@@ -3,12 +3,12 @@ use mathlib.Core.Path.{_≡_, refl, ap, _∙_}
 use mathlib.Core.Bool.{Bool, true, false, cond}
 use mathlib.Core.List.{List, [], _∷_, _++_}
 use Prim.Native.Nat.{ℕ, zero, suc, _+_, _-_, _*_, _<_, _≤_}
-use native.Mathlib.Nat.{suc-mul, zero-mul}
+use native.Mathlib.Nat.{zero-add, suc-mul, zero-mul, mul-zero}
 use native.Mathlib.Omega.{arith}
 use lib.ListN.{length, take, set, replicate, length-replicate}
 use Rattle.std.proofs.shelf.Lists.{take-more-set, take-all, append-assoc, append-nil}
 use Rattle.draw.specs.Words.{Words, after, rolled, rollTaken}
-use Rattle.draw.specs.Selections.{prefix, prefixTaken, subset, subsetTaken, selected}
+use Rattle.draw.specs.Selections.{prefix, prefixTaken, subset, subsetTaken, selected, selectTaken}
 use Rattle.draw.specs.declared.select.PartialWriteMode.{PartialWriteMode}
 use Rattle.draw.specs.declared.select.PartialWriteMode.the-variants.{Prefix, Subset}
 use Rattle.draw.proofs.Counts.{after-after}
@@ -31,6 +31,30 @@ subset-length rate (suc n) w = ap suc (subset-length rate n (after (rollTaken ra
 pub selected-length : (mode : PartialWriteMode) (rate n : ℕ) (w : Words) → length (selected mode rate n w) ≡ n
 selected-length Prefix rate n w = prefix-length rate n w
 selected-length Subset rate n w = subset-length rate n w
+
+-- rate 65,536 selects every place, and rate 0 none
+pub selected-all : (mode : PartialWriteMode) (n : ℕ) (w : Words) → selected mode 65536 n w ≡ replicate n true
+selected-all Prefix zero w = refl
+selected-all Prefix (suc n) w = ap (λ xs. true ∷ xs) (selected-all Prefix n w)
+selected-all Subset zero w = refl
+selected-all Subset (suc n) w = ap (λ xs. true ∷ xs) (selected-all Subset n w)
+
+pub selected-none : (mode : PartialWriteMode) (n : ℕ) (w : Words) → selected mode 0 n w ≡ replicate n false
+selected-none Prefix zero w = refl
+selected-none Prefix (suc n) w = refl
+selected-none Subset zero w = refl
+selected-none Subset (suc n) w = ap (λ xs. false ∷ xs) (selected-none Subset n w)
+
+-- neither takes a word
+pub taken-all : (mode : PartialWriteMode) (n : ℕ) (w : Words) → selectTaken mode 65536 n w ≡ 0
+taken-all Prefix zero w = refl
+taken-all Prefix (suc n) w = rw zero-add (taken-all Prefix n w)
+taken-all Subset n w = mul-zero n
+
+pub taken-none : (mode : PartialWriteMode) (n : ℕ) (w : Words) → selectTaken mode 0 n w ≡ 0
+taken-none Prefix zero w = refl
+taken-none Prefix (suc n) w = refl
+taken-none Subset n w = mul-zero n
 
 -- what is still to come of a prefix: its flags and its words, if no roll has said no, and else flags that are not set
 abbrev pub onward : Bool → (rate n : ℕ) → Words → List Bool
