@@ -51,12 +51,10 @@ for state in (0, 1, 0x0123456789ABCDEF, MASK):
     for word in islice(generator(state), 100):
         print(word)
 
-print("tape of 7, 0, 65535, 40000")
-for word in islice(tape([7, 0, 65535, 40000]), 8):
-    print(word)
-print("empty tape")
-for word in islice(tape([]), 3):
-    print(word)
+for words in ([7, 0, 65535, 40000], []):
+    print(f"tape of {words}")
+    for word in islice(tape(words), 8):
+        print(word)
 
 for rate in (0, 1, 32768, 65535, 65536, 65537, MASK):
     source = tape([0, 1, 65534, 65535, 11])
@@ -72,9 +70,8 @@ for n in (0, 1, 7, 65536, MASK):
         print(pick(source, n))
     print(f"next {next(source)}")
 
-for rate in (0, 32768, 65536):
+for rate in (0, 32768, 65535, 65536, 65537):
     selection("Prefix", rate, [1, 40000, 5, 6])
+    selection("Prefix", rate, [65534, 65534, 65534, 6])
     selection("Subset", rate, [40000, 1, 1, 6])
-selection("Prefix", 65535, [65534, 65534, 65534, 6])
-selection("Prefix", 65535, [])
-selection("Subset", 65537, [])
+    selection("Subset", rate, [])

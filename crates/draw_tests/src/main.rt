@@ -13,31 +13,32 @@ use std::io;
 
 fn main(rt: LibcRuntime) -> io::Result<()> {
     for state in [0, 1, 0x0123_4567_89ab_cdef, u64::MAX] {
-        println!(rt, "generator from {state}")?;
-        words(rt, &mut Generator::new(state), 100)?;
+        generator(rt, state)?;
     }
-    println!(rt, "tape of 7, 0, 65535, 40000")?;
-    words(rt, &mut Tape::new(&[7, 0, 65535, 40000]), 8)?;
-    println!(rt, "empty tape")?;
-    words(rt, &mut Tape::new(&[]), 3)?;
+    tape(rt, &[7, 0, 65535, 40000])?;
+    tape(rt, &[])?;
     for rate in [0, 1, 32768, 65535, 65536, 65537, u64::MAX] {
         rolls(rt, rate)?;
     }
     for n in [0, 1, 7, 65536, u64::MAX] {
         picks(rt, n)?;
     }
-    for rate in [0, 32768, 65536] {
-        selection(rt, PartialWriteMode::Prefix, rate, &[1, 40000, 5, 6])?;
-        selection(rt, PartialWriteMode::Subset, rate, &[40000, 1, 1, 6])?;
+    for rate in [0, 32768, 65535, 65536, 65537] {
+        selections(rt, rate)?;
     }
-    selection(
-        rt,
-        PartialWriteMode::Prefix,
-        65535,
-        &[65534, 65534, 65534, 6],
-    )?;
-    selection(rt, PartialWriteMode::Prefix, 65535, &[])?;
-    selection(rt, PartialWriteMode::Subset, 65537, &[])
+    Ok(())
+}
+
+/// The first hundred words from a state.
+fn generator(rt: LibcRuntime, state: u64) -> io::Result<()> {
+    println!(rt, "generator from {state}")?;
+    words(rt, &mut Generator::new(state), 100)
+}
+
+/// The first eight words of a tape.
+fn tape(rt: LibcRuntime, given: &[u16]) -> io::Result<()> {
+    println!(rt, "tape of {given:?}")?;
+    words(rt, &mut Tape::new(given), 8)
 }
 
 /// The next `count` words.
@@ -66,6 +67,19 @@ fn picks(rt: LibcRuntime, n: u64) -> io::Result<()> {
         println!(rt, "{}", pick(&mut tape, n))?;
     }
     println!(rt, "next {}", tape.next())
+}
+
+/// Selections at one rate: some that stop within the three places, some that do not.
+fn selections(rt: LibcRuntime, rate: u64) -> io::Result<()> {
+    selection(rt, PartialWriteMode::Prefix, rate, &[1, 40000, 5, 6])?;
+    selection(
+        rt,
+        PartialWriteMode::Prefix,
+        rate,
+        &[65534, 65534, 65534, 6],
+    )?;
+    selection(rt, PartialWriteMode::Subset, rate, &[40000, 1, 1, 6])?;
+    selection(rt, PartialWriteMode::Subset, rate, &[])
 }
 
 /// A selection over three places, and the word after it.
