@@ -4,7 +4,7 @@ ghost use Rattle.draw.specs.Sources.{generated, generated-narrow, stepped};
 use super::source::Source;
 
 /// A shift-register generator with 64 bits of state. State 0 gives only zeros.
-#[derive(Clone, Copy, PartialEq, Eq, Debug)]
+#[derive(Drop)]
 pub struct Generator {
     state: u64,
 }
