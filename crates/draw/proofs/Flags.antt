@@ -2,8 +2,8 @@
 use mathlib.Core.Path.{_≡_, refl, ap, _∙_}
 use mathlib.Core.Bool.{Bool, true, false, cond}
 use mathlib.Core.List.{List, [], _∷_, _++_}
-use Prim.Native.Nat.{ℕ, zero, suc, _+_, _-_, _*_, _<_, _≤_}
-use native.Mathlib.Nat.{zero-add, suc-mul, zero-mul, mul-zero}
+use Prim.Native.Nat.{ℕ, zero, suc, _+_, _-_, _*_, _<_, _≤_, min}
+use native.Mathlib.Nat.{zero-add, suc-mul, zero-mul, mul-zero, one-mul}
 use native.Mathlib.Omega.{arith}
 use lib.ListN.{length, take, set, replicate, length-replicate}
 use Rattle.std.proofs.shelf.Lists.{take-more-set, take-all, append-assoc, append-nil}
@@ -55,6 +55,34 @@ pub taken-none : (mode : PartialWriteMode) (n : ℕ) (w : Words) → selectTaken
 taken-none Prefix zero w = refl
 taken-none Prefix (suc n) w = refl
 taken-none Subset n w = mul-zero n
+
+-- a prefix over n places: some m are selected, then no more, by a roll for each of them and one that says no if m is below n
+abbrev pub Stops : (rate n : ℕ) → List Bool → ℕ → ℕ → Type 0
+Stops rate n flags taken m =
+    (m ≤ n) × (flags ≡ replicate m true ++ replicate (n - m) false) × (taken ≡ min n (suc m) * rollTaken rate)
+
+stops-more : (rate n m taken : ℕ) (flags : List Bool) → Stops rate n flags taken m → Stops rate (suc n) (true ∷ flags) (rollTaken rate + taken) (suc m)
+stops-more rate n m taken flags (h, e, t) =
+    let d : suc n - suc m ≡ n - m = omega arith in
+    let k : min (suc n) (suc (suc m)) ≡ suc (min n (suc m)) = omega arith in
+    (omega arith, rw (d, e) refl, rw (k, t) (omega (arith, suc-mul (min n (suc m)) (rollTaken rate))))
+
+stops-here : (rate n : ℕ) → Stops rate (suc n) (replicate (suc n) false) (rollTaken rate) 0
+stops-here rate n =
+    let d : suc n - 0 ≡ suc n = omega arith in
+    let k : min (suc n) 1 ≡ 1 = omega arith in
+    (omega arith, rw d refl, rw (k, one-mul) refl)
+
+stops-either : (rate n m taken : ℕ) (flags : List Bool) → Stops rate n flags taken m → (b : Bool) → (k : ℕ) × Stops rate (suc n) (cond b (true ∷ flags) (replicate (suc n) false)) (cond b (rollTaken rate + taken) (rollTaken rate)) k
+stops-either rate n m taken flags s true = (suc m, stops-more rate n m taken flags s)
+stops-either rate n m taken flags s false = (0, stops-here rate n)
+
+pub prefix-stops : (rate n : ℕ) (w : Words) → (m : ℕ) × Stops rate n (prefix rate n w) (prefixTaken rate n w) m
+prefix-stops rate zero w = (0, (omega arith, refl, rw zero-mul refl))
+prefix-stops rate (suc n) w =
+    let v = after (rollTaken rate) w in
+    let s = prefix-stops rate n v in
+    stops-either rate n (s .0) (prefixTaken rate n v) (prefix rate n v) (s .1) (rolled rate w)
 
 -- what is still to come of a prefix: its flags and its words, if no roll has said no, and else flags that are not set
 abbrev pub onward : Bool → (rate n : ℕ) → Words → List Bool

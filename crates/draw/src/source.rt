@@ -14,7 +14,7 @@ pub trait Source {
         ensures left { λ r. ⌜ words (now (self .exit)) ≡ rest (words (now (self .entry))) ⌝ };
 }
 
-/// Says yes in `rate` of 65,536 cases. Rate 0 says no and rate 65,536 says yes, without a word.
+/// Whether the next word is below `rate`. Rate 0 says no and rate 65,536 says yes, without a word.
 pub fn roll<S: Source>(source: &mut S, rate: u64) -> bool
     ensures said { λ r. ⌜ r ≡ rolled rate (S·Source .words (now (source .entry))) ⌝ }
     ensures left { λ r. ⌜ S·Source .words (now (source .exit)) ≡ after (rollTaken rate) (S·Source .words (now (source .entry))) ⌝ }
