@@ -1,0 +1,3 @@
+pub mod Selections
+pub mod Sources
+pub mod Words
