@@ -6,6 +6,7 @@ use Prim.Native.Nat.{ℕ, zero, suc, _+_, _-_, _<_, _≤_}
 use native.Mathlib.Omega.{arith}
 use lib.Dec.{ltb}
 use lib.ListN.{length, getD, take, drop, set}
+use Rattle.std.specs.Options.{isSome}
 use Rattle.std.specs.declared.option.Option.{Option}
 use Rattle.std.specs.declared.option.Option.the-variants.{Some, None}
 use Rattle.std.specs.shelf.Lists.{removed}
@@ -82,6 +83,22 @@ module _ {A : Type 0} (p : A → Bool) where
     go : (t : Bool) → p x ≡ t → (length xs ≤ failing p xs → found p xs ≡ None) → found p (x ∷ xs) ≡ None
     go true e more = absurd (let l : suc (length xs) ≤ 0 = rw e at h in omega arith)
     go false e more = rw e (more (let l : suc (length xs) ≤ suc (failing p xs) = rw e at h in omega arith))
+
+  some-failing : (xs : List A) → Fails xs → isSome (found p xs) ≡ true
+  some-failing [] h = absurd (omega arith)
+  some-failing (x ∷ xs) h = go (p x) refl (some-failing xs)
+    where
+    go : (t : Bool) → p x ≡ t → (Fails xs → isSome (found p xs) ≡ true) → isSome (found p (x ∷ xs)) ≡ true
+    go true e more = rw e refl
+    go false e more = rw e (more (let l : suc (failing p xs) < suc (length xs) = rw e at h in omega arith))
+
+  -- a place is found where a row is
+  pub position-found : (xs : List A) → isSome (position p xs) ≡ isSome (found p xs)
+  position-found xs = go (ltb (failing p xs) (length xs)) refl
+    where
+    go : (t : Bool) → ltb (failing p xs) (length xs) ≡ t → isSome (position p xs) ≡ isSome (found p xs)
+    go true e = ap isSome (cond-true _ _ _ e) ∙ sym (some-failing xs (ltb-true (failing p xs) (length xs) e))
+    go false e = ap isSome (cond-false _ _ _ e) ∙ sym (ap isSome (none-failing xs (ltb-false (failing p xs) (length xs) e)))
 
   -- what a loop that found place i knows
   pub record Found (xs : List A) (i : ℕ) : Type 0 where

@@ -1,0 +1,74 @@
+//! Which row is meant.
+ghost use mathlib.Core.Path.{_≡_};
+ghost use lib.ListN.{length};
+ghost use Rattle.std.specs.shelf.Text.{sameBytes};
+ghost use Rattle.table.specs.Tables.{position};
+ghost use Rattle.store.specs.Meaning.{emptyVolume};
+ghost use Rattle.store.specs.Durable.{named, generated, partitionStands, fileStands};
+ghost use Rattle.memory.specs.Volumes.{partitionsOf, filesOf, volumeOf};
+use super::rows::{File, Memory};
+use name::row::Name;
+
+impl Memory {
+    /// No partition and no file.
+    pub fn new() -> Self
+        ensures { λ r. ⌜ volumeOf r ≡ emptyVolume ⌝ }
+    {
+        Memory {
+            partitions: [Name::empty(); 4],
+            stand: 0,
+            files: [File::unused(); 8],
+            count: 0,
+        }
+    }
+
+    /// The place of a partition.
+    pub(crate) fn find_partition(&self, partition: &[u8]) -> Option<usize>
+        ensures { λ r. ⌜ r ≡ position (λ q. sameBytes q (now (partition .entry))) (partitionsOf (now (self .entry))) ⌝ }
+    {
+        for i in 0..self.stand {
+            if self.partitions[i].is(partition) {
+                return Some(i);
+            }
+        }
+        None
+    }
+
+    /// The place of the file of a name.
+    pub(crate) fn find(&self, partition: &[u8], name: &[u8]) -> Option<usize>
+        ensures { λ r. ⌜ r ≡ position (named (now (partition .entry)) (now (name .entry))) (filesOf (now (self .entry))) ⌝ }
+    {
+        for i in 0..self.count {
+            if self.files[i].is_named(partition, name) {
+                return Some(i);
+            }
+        }
+        None
+    }
+
+    /// The place of the file of a generation.
+    pub(crate) fn find_generation(&self, generation: u64) -> Option<usize>
+        ensures { λ r. ⌜ r ≡ position (generated generation) (filesOf (now (self .entry))) ⌝ }
+    {
+        for i in 0..self.count {
+            if self.files[i].is_of(generation) {
+                return Some(i);
+            }
+        }
+        None
+    }
+
+    /// Whether a partition stands.
+    pub(crate) fn has_partition(&self, partition: &[u8]) -> bool
+        ensures { λ r. ⌜ r ≡ partitionStands (volumeOf (now (self .entry))) (now (partition .entry)) ⌝ }
+    {
+        self.find_partition(partition).is_some()
+    }
+
+    /// Whether a file of this name stands.
+    pub(crate) fn has_file(&self, partition: &[u8], name: &[u8]) -> bool
+        ensures { λ r. ⌜ r ≡ fileStands (volumeOf (now (self .entry))) (now (partition .entry)) (now (name .entry)) ⌝ }
+    {
+        self.find(partition, name).is_some()
+    }
+}

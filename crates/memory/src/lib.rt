@@ -1,0 +1,3 @@
+pub mod finds;
+pub mod row;
+pub mod rows;
