@@ -25,3 +25,6 @@ filesOf m = used fileOf (m .count) (m .files)
 
 abbrev pub volumeOf : Memory → Volume
 volumeOf m = record { partitions = partitionsOf m; files = filesOf m }
+
+abbrev pub withPartitions : Volume → List (List ℕ) → Volume
+withPartitions v ps = record { partitions = ps; files = v .files }

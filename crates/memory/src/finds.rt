@@ -6,8 +6,12 @@ ghost use Rattle.table.specs.Tables.{position};
 ghost use Rattle.store.specs.Meaning.{emptyVolume};
 ghost use Rattle.store.specs.Durable.{named, generated, partitionStands, fileStands};
 ghost use Rattle.memory.specs.Volumes.{partitionsOf, filesOf, volumeOf};
+ghost use Rattle.memory.specs.Seeks.{partitionPlace, filePlace, partitionCrowded, fileCrowded};
 use super::rows::{File, Memory};
+use fault::Fault;
+use name::letters::is_partition;
 use name::row::Name;
+use store::limits::{FILE_LIMIT, PARTITION_LIMIT};
 
 impl Memory {
     /// No partition and no file.
@@ -65,10 +69,42 @@ impl Memory {
         self.find_partition(partition).is_some()
     }
 
+    /// Whether a partition is absent and there is no room for it.
+    pub(crate) fn lacks_partition(&self, partition: &[u8]) -> bool
+        ensures { λ r. ⌜ r ≡ partitionCrowded (volumeOf (now (self .entry))) (now (partition .entry)) ⌝ }
+    {
+        !self.has_partition(partition) && self.stand >= PARTITION_LIMIT
+    }
+
     /// Whether a file of this name stands.
     pub(crate) fn has_file(&self, partition: &[u8], name: &[u8]) -> bool
         ensures { λ r. ⌜ r ≡ fileStands (volumeOf (now (self .entry))) (now (partition .entry)) (now (name .entry)) ⌝ }
     {
         self.find(partition, name).is_some()
+    }
+
+    /// Whether a file is absent and there is no room for it.
+    pub(crate) fn lacks_file(&self, partition: &[u8], name: &[u8]) -> bool
+        ensures { λ r. ⌜ r ≡ fileCrowded (volumeOf (now (self .entry))) (now (partition .entry)) (now (name .entry)) ⌝ }
+    {
+        !self.has_file(partition, name) && self.count >= FILE_LIMIT
+    }
+
+    /// The place of a partition that a call names.
+    pub(crate) fn seek_partition(&self, partition: &[u8]) -> Result<usize, Fault>
+        ensures { λ r. ⌜ r ≡ partitionPlace (volumeOf (now (self .entry))) (now (partition .entry)) ⌝ }
+    {
+        if !is_partition(partition) {
+            return Err(Fault::BadPartition);
+        }
+        self.find_partition(partition).ok_or(Fault::PartitionMissing)
+    }
+
+    /// The place of a file that a call names.
+    pub(crate) fn seek(&self, partition: &[u8], name: &[u8]) -> Result<usize, Fault>
+        ensures { λ r. ⌜ r ≡ filePlace (volumeOf (now (self .entry))) (now (partition .entry)) (now (name .entry)) ⌝ }
+    {
+        self.seek_partition(partition)?;
+        self.find(partition, name).ok_or(Fault::BlobMissing)
     }
 }

@@ -1,3 +1,4 @@
+pub mod changes;
 pub mod finds;
 pub mod row;
 pub mod rows;

@@ -1,14 +1,17 @@
 -- The rows in use, by place.
 use mathlib.Core.Path.{_≡_, refl, ap, sym, _∙_}
+use mathlib.Core.Bool.{cond}
 use mathlib.Core.List.{List, [], _∷_, _++_, map}
 use Prim.Native.Nat.{ℕ, zero, suc, _+_, _-_, _<_, _≤_}
 use native.Mathlib.Omega.{arith}
 use borrow.Author.Needs.{needs}
 use native.Mathlib.Numerals.{add-one}
 use borrow.Rule.Slice.PartMut.{putMid}
+use lib.Dec.{ltb}
 use lib.ListN.{length, getD, take, drop, set}
 use Rattle.std.specs.shelf.Lists.{removed}
-use Rattle.std.proofs.shelf.Lists.{length-take-le, length-map, getD-take, getD-map, map-set, map-append, set-at, take-at, take-map, drop-more, append-assoc, append-nil, length-push, places, take-rest, drop-drop, drop-all, drop-map}
+use Rattle.std.proofs.shelf.Lists.{length-take-le, length-map, getD-take, getD-map, map-set, map-append, set-at, take-at, take-map, drop-more, append-assoc, append-nil, length-push, take-more-set, take-append-le, places, take-rest, drop-drop, drop-all, drop-map}
+use Rattle.std.proofs.shelf.Tests.{lt-ltb, cond-true}
 use Rattle.table.specs.Tables.{used}
 
 take-set : {A : Type 0} (n : ℕ) (xs : List A) (i : ℕ) (x : A) → take n (set xs i x) ≡ set (take n xs) i x
@@ -27,6 +30,10 @@ module _ {R A : Type 0} (f : R → A) (rows : List R) (n : ℕ) (fits : n ≤ le
   -- a row in use is changed
   pub used-set : (i : ℕ) (r : R) → used f n (set rows i r) ≡ set (used f n rows) i (f r)
   used-set i r = ap (take n) (map-set f rows i r) ∙ take-set n (map f rows) i (f r)
+
+-- one row more
+pub used-add : {R A : Type 0} (f : R → A) (rows : List R) (n : ℕ) (z : R) → n < length rows → used f (n + 1) (set rows n z) ≡ used f n rows ++ (f z ∷ [])
+used-add f rows n z h = ap (take (n + 1)) (map-set f rows n z) ∙ take-more-set (map f rows) n (f z) (omega (arith, length-map rows f))
 
 -- one row more, behind those of a front that stays or was changed in place
 pub used-push : {R A : Type 0} (f : R → A) (rows ys : List R) (n k : ℕ) (z : R) → length ys ≡ n → n < length rows → k ≡ n
@@ -64,3 +71,17 @@ used-retired f rows part n k i fits h e =
     let parts : map f front ≡ take i (map f (take n rows)) ++ drop (i + 1) (map f (take n rows)) =
       map-append f (take i (take n rows)) (drop (i + 1) (take n rows)) ∙ rw (take-map f i (take n rows), drop-map f (i + 1) (take n rows)) refl in
     cut ∙ parts ∙ rw (take-map f n rows, add-one) refl
+
+-- the same, as `retire` leaves a front of the rows
+pub used-left : {R A : Type 0} (f : R → A) (rows part : List R) (n i : ℕ) → n ≤ length rows → i < n
+  → part ≡ cond (ltb i (length (take (n - 0) rows))) (take i (take (n - 0) rows) ++ (drop (i + 1) (take (n - 0) rows) ++ take 1 (drop i (take (n - 0) rows)))) (take (n - 0) rows)
+  → used f (n - 1) (part ++ drop (n - 0) rows) ≡ removed (used f n rows) i
+used-left f rows part n i fits h e =
+    let z : n - 0 ≡ n = omega arith in
+    let l : i < length (take n rows) = omega (arith, length-take-le n rows fits) in
+    used-retired f rows part n (n - 0) i fits h (rw z at e ∙ cond-true _ _ _ (lt-ltb i (length (take n rows)) l))
+
+-- a front of the first ones of two lists of rows
+pub used-front : {R A : Type 0} (f : R → A) (part rest : List R) (n : ℕ) → n ≤ length part → used f n (part ++ rest) ≡ map f (take n part)
+used-front f part rest n h =
+    ap (take n) (map-append f part rest) ∙ take-append-le n (map f part) (map f rest) (omega (arith, length-map part f)) ∙ take-map f n part
