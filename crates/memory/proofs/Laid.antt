@@ -10,12 +10,13 @@ use Rattle.content.specs.Bytes.{limit, within}
 use Rattle.content.specs.Patches.{Patch, lay}
 
 pub laid-at : (xs : List ℕ) (os : Patch) (n r k : ℕ) → length os ≡ n → (r ≤ limit → r ≡ k) → (k ≤ limit → r ≡ k)
-  → within (r + n) (lay xs r os) xs ≡ within (k + length os) (lay xs k os) xs
+    → within (r + n) (lay xs r os) xs ≡ within (k + length os) (lay xs k os) xs
 laid-at xs os n r k long near far = ⊎-elim past here (cases-lt limit r)
   where
-  past : limit < r → within (r + n) (lay xs r os) xs ≡ within (k + length os) (lay xs k os) xs
-  past h =
-      let beyond : limit < k = ⊎-elim (λ l. l) (λ l. let e = far l in omega arith) (cases-lt limit k) in
-      cond-false _ _ _ (lt-leb (r + n) limit (omega arith)) ∙ sym (cond-false _ _ _ (lt-leb (k + length os) limit (omega arith)))
-  here : r ≤ limit → within (r + n) (lay xs r os) xs ≡ within (k + length os) (lay xs k os) xs
-  here h = rw (near h, sym long) refl
+    past : limit < r → within (r + n) (lay xs r os) xs ≡ within (k + length os) (lay xs k os) xs
+    past h =
+        let beyond : limit < k = ⊎-elim (λ l. l) (λ l. let e = far l in omega arith) (cases-lt limit k) in
+        cond-false _ _ _ (lt-leb (r + n) limit (omega arith)) ∙ sym (cond-false _ _ _ (lt-leb (k + length os) limit (omega arith)))
+
+    here : r ≤ limit → within (r + n) (lay xs r os) xs ≡ within (k + length os) (lay xs k os) xs
+    here h = rw (near h, sym long) refl

@@ -1,3 +1,4 @@
 pub mod Laid
 pub mod Standing
 pub mod Found
+pub mod Rooms

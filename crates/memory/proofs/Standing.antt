@@ -58,30 +58,30 @@ module _ (v : Volume) (p : List ℕ) where
   pub place-is : isPartition p ≡ true → okOr place PartitionMissing ≡ partitionPlace v p
   place-is s = go (partitionStands v p) refl
     where
-    go : (t : Bool) → partitionStands v p ≡ t → okOr place PartitionMissing ≡ partitionPlace v p
-    go true t = sym (at-standing _ s t)
-    go false t = none-missing place PartitionMissing (stands-is ∙ t) ∙ sym (at-missing _ s t)
+      go : (t : Bool) → partitionStands v p ≡ t → okOr place PartitionMissing ≡ partitionPlace v p
+      go true t = sym (at-standing _ s t)
+      go false t = none-missing place PartitionMissing (stands-is ∙ t) ∙ sym (at-missing _ s t)
 
   -- a call that meets nothing at a place goes on
   passes : {B : Type 0} (o : Option B) (f : Fault) (i : B) → inStanding v p (okOr o f) ≡ Ok i → (Some i ≡ o) × ((A : Type 0) (r : Result A Fault) → inStanding v p r ≡ r)
   passes {B} o f i h = go (isPartition p) (partitionStands v p) refl refl
     where
-    go : (s t : Bool) → isPartition p ≡ s → partitionStands v p ≡ t → (Some i ≡ o) × ((A : Type 0) (r : Result A Fault) → inStanding v p r ≡ r)
-    go true true s t = (some-ok o f i (sym (at-standing (okOr o f) s t) ∙ h), λ A r. at-standing r s t)
-    go true false s t = absurd (let k : Err PartitionMissing ≡ Ok i = sym (at-missing (okOr o f) s t) ∙ h in let z : _≡_ {A = ℕ} 0 1 = cc in omega arith)
-    go false t s _ = absurd (let k : Err BadPartition ≡ Ok i = sym (at-bad (okOr o f) s) ∙ h in let z : _≡_ {A = ℕ} 0 1 = cc in omega arith)
+      go : (s t : Bool) → isPartition p ≡ s → partitionStands v p ≡ t → (Some i ≡ o) × ((A : Type 0) (r : Result A Fault) → inStanding v p r ≡ r)
+      go true true s t = (some-ok o f i (sym (at-standing (okOr o f) s t) ∙ h), λ A r. at-standing r s t)
+      go true false s t = absurd (let k : Err PartitionMissing ≡ Ok i = sym (at-missing (okOr o f) s t) ∙ h in let z : _≡_ {A = ℕ} 0 1 = cc in omega arith)
+      go false t s _ = absurd (let k : Err BadPartition ≡ Ok i = sym (at-bad (okOr o f) s) ∙ h in let z : _≡_ {A = ℕ} 0 1 = cc in omega arith)
 
   -- and one that meets a fault there meets it
   stops : {B : Type 0} (o : Option B) (f e : Fault) → inStanding v p (okOr o f) ≡ Err e → {A : Type 0} (r : Result A Fault)
-    → (partitionStands v p ≡ true → None ≡ o → r ≡ Err f) → inStanding v p r ≡ Err e
+      → (partitionStands v p ≡ true → None ≡ o → r ≡ Err f) → inStanding v p r ≡ Err e
   stops {B} o f e h {A} r k = go (isPartition p) (partitionStands v p) refl refl
     where
-    go : (s t : Bool) → isPartition p ≡ s → partitionStands v p ≡ t → inStanding v p r ≡ Err e
-    go true true s t =
-        let n = none-err o f e (sym (at-standing (okOr o f) s t) ∙ h) in
-        at-standing r s t ∙ k t (n .0) ∙ ap Err (n .1)
-    go true false s t = at-missing r s t ∙ ap Err (err-same PartitionMissing e (sym (at-missing (okOr o f) s t) ∙ h))
-    go false t s _ = at-bad r s ∙ ap Err (err-same BadPartition e (sym (at-bad (okOr o f) s) ∙ h))
+      go : (s t : Bool) → isPartition p ≡ s → partitionStands v p ≡ t → inStanding v p r ≡ Err e
+      go true true s t =
+          let n = none-err o f e (sym (at-standing (okOr o f) s t) ∙ h) in
+          at-standing r s t ∙ k t (n .0) ∙ ap Err (n .1)
+      go true false s t = at-missing r s t ∙ ap Err (err-same PartitionMissing e (sym (at-missing (okOr o f) s t) ∙ h))
+      go false t s _ = at-bad r s ∙ ap Err (err-same BadPartition e (sym (at-bad (okOr o f) s) ∙ h))
 
   pub standing : (i : ℕ) → partitionPlace v p ≡ Ok i → {A : Type 0} (r : Result A Fault) → inStanding v p r ≡ r
   standing i h {A} r = passes place PartitionMissing i h .1 A r
@@ -102,4 +102,8 @@ module _ (v : Volume) (p : List ℕ) where
   pub file-missing : (n : List ℕ) (e : Fault) → filePlace v p n ≡ Err e → {A : Type 0} (a : File → A) → ofFile v p n a ≡ Err e
   file-missing n e h {A} a =
       stops (position (named p n) (v .files)) BlobMissing e h (whenSome (fileAt v p n) (λ f. Ok (a f)) (Err BlobMissing))
-        (λ t k. ap (λ (o : Option File). whenSome o (λ f. Ok (a f)) (Err BlobMissing)) (position-none (named p n) (v .files) k))
+      (λ t k. ap (λ (o : Option File). whenSome o (λ f. Ok (a f)) (Err BlobMissing)) (position-none (named p n) (v .files) k))
+
+  pub file-ok : (n : List ℕ) (i : ℕ) → filePlace v p n ≡ Ok i → (f : File) → fileAt v p n ≡ Some f → {A : Type 0} (a : File → A) → ofFile v p n a ≡ Ok (a f)
+  file-ok n i h f e {A} a =
+      file-standing n i h (whenSome (fileAt v p n) (λ f. Ok (a f)) (Err BlobMissing)) ∙ ap (λ (o : Option File). whenSome o (λ f. Ok (a f)) (Err BlobMissing)) e

@@ -10,12 +10,12 @@ use Rattle.memory.specs.declared.rows.Memory.{Memory}
 
 abbrev pub fileOf : File → Stored
 fileOf f = record {
-      partition = nameOf (f .partition);
-      name = nameOf (f .name);
-      generation = f .generation;
-      header = f .header;
-      durable = bytesOf (f .durable);
-    }
+  partition = nameOf (f .partition);
+  name = nameOf (f .name);
+  generation = f .generation;
+  header = f .header;
+  durable = bytesOf (f .durable);
+}
 
 abbrev pub partitionsOf : Memory → List (List ℕ)
 partitionsOf m = used nameOf (m .stand) (m .partitions)

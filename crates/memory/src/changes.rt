@@ -10,7 +10,8 @@ ghost use Rattle.store.specs.Meaning.{withFiles};
 ghost use Rattle.store.specs.Durable.{inPartition, nameTooLong, openTooLong, partitionStands, openedFile, newFile, fileStands};
 ghost use Rattle.memory.specs.Volumes.{fileOf, partitionsOf, filesOf, volumeOf, withPartitions};
 ghost use Rattle.memory.specs.Seeks.{partitionCrowded, fileCrowded};
-use super::rows::{File, Memory};
+use super::rows::File;
+use super::rows::Memory;
 use name::row::Name;
 use table::retire;
 
@@ -45,7 +46,13 @@ impl Memory {
     }
 
     /// Finds a file, or makes it with this header and generation.
-    pub(crate) fn make_file(&mut self, partition: &[u8], name: &[u8], header: &[u8], generation: u64) -> File
+    pub(crate) fn make_file(
+        &mut self,
+        partition: &[u8],
+        name: &[u8],
+        header: &[u8],
+        generation: u64,
+    ) -> File
         requires short { ⌜ openTooLong (now partition) (now name) (now header) ≡ false ⌝ }
         requires room { ⌜ fileCrowded (volumeOf (now self)) (now partition) (now name) ≡ false ⌝ }
         ensures it { λ r. ⌜ fileOf r ≡ openedFile (volumeOf (now (self .entry))) (now (partition .entry)) (now (name .entry)) (now (header .entry)) generation ⌝ }

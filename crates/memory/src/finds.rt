@@ -7,11 +7,13 @@ ghost use Rattle.store.specs.Meaning.{emptyVolume};
 ghost use Rattle.store.specs.Durable.{named, generated, partitionStands, fileStands};
 ghost use Rattle.memory.specs.Volumes.{partitionsOf, filesOf, volumeOf};
 ghost use Rattle.memory.specs.Seeks.{partitionPlace, filePlace, partitionCrowded, fileCrowded};
-use super::rows::{File, Memory};
+use super::rows::File;
+use super::rows::Memory;
 use fault::Fault;
 use name::letters::is_partition;
 use name::row::Name;
-use store::limits::{FILE_LIMIT, PARTITION_LIMIT};
+use store::limits::FILE_LIMIT;
+use store::limits::PARTITION_LIMIT;
 
 impl Memory {
     /// No partition and no file.
@@ -97,7 +99,8 @@ impl Memory {
         if !is_partition(partition) {
             return Err(Fault::BadPartition);
         }
-        self.find_partition(partition).ok_or(Fault::PartitionMissing)
+        self.find_partition(partition)
+            .ok_or(Fault::PartitionMissing)
     }
 
     /// The place of a file that a call names.

@@ -33,7 +33,13 @@ impl File {
     {
         let mut durable = Content::new();
         durable.replace(header);
-        File { partition, name, generation, header: header.len(), durable }
+        File {
+            partition,
+            name,
+            generation,
+            header: header.len(),
+            durable,
+        }
     }
 
     /// Whether the file stands in a partition.

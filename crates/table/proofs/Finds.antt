@@ -13,32 +13,27 @@ use Rattle.std.specs.shelf.Lists.{removed}
 use Rattle.std.proofs.shelf.Lists.{drop-more, drop-all}
 use Rattle.std.proofs.shelf.Tests.{lt-ltb, le-ltb, ltb-true, ltb-false, cond-true, cond-false}
 use Rattle.table.specs.Tables.{used, failing, position, found, amended, without}
-use Rattle.table.proofs.Uses.{used-length, used-at}
+use Rattle.table.proofs.Uses.{used-length, used-drop}
 
 -- the loop has passed i rows
 abbrev pub Passed : {A : Type 0} → (A → Bool) → List A → ℕ → Type 0
 Passed p xs i = i + failing p (drop i xs) ≡ failing p xs
 
 module _ {R A : Type 0} (f : R → A) (p : A → Bool) (rows : List R) (n : ℕ) (fits : n ≤ length rows) where
-  opened : (i : ℕ) (r : R) → i < n → r ≡ getD rows i r → drop i (used f n rows) ≡ f r ∷ drop (i + 1) (used f n rows)
-  opened i r h e =
-      drop-more (used f n rows) i (f r) (omega (arith, used-length f rows n fits))
-        ∙ ap (λ x. x ∷ drop (i + 1) (used f n rows)) (used-at f rows n fits i r (f r) h e)
-
   pub find-none : Passed p (used f n rows) 0
   find-none = omega arith
 
   pub find-here : (i : ℕ) (r : R) → i < n → r ≡ getD rows i r → p (f r) ≡ true → Passed p (used f n rows) i → Some i ≡ position p (used f n rows)
   find-here i r h e t inv =
       let o : failing p (drop i (used f n rows)) ≡ 0 =
-        ap (failing p) (opened i r h e) ∙ cond-true (p (f r)) 0 (suc (failing p (drop (i + 1) (used f n rows)))) t in
+      ap (failing p) (used-drop f rows n fits i r h e) ∙ cond-true (p (f r)) 0 (suc (failing p (drop (i + 1) (used f n rows)))) t in
       let here : i ≡ failing p (used f n rows) = omega arith in
       ap Some here ∙ sym (cond-true (ltb (failing p (used f n rows)) (length (used f n rows))) (Some (failing p (used f n rows))) None (lt-ltb (failing p (used f n rows)) (length (used f n rows)) (omega (arith, used-length f rows n fits))))
 
   pub find-more : (i : ℕ) (r : R) → i < n → r ≡ getD rows i r → p (f r) ≡ false → Passed p (used f n rows) i → Passed p (used f n rows) (i + 1)
   find-more i r h e t inv =
       let o : failing p (drop i (used f n rows)) ≡ suc (failing p (drop (i + 1) (used f n rows))) =
-        ap (failing p) (opened i r h e) ∙ cond-false (p (f r)) 0 (suc (failing p (drop (i + 1) (used f n rows)))) t in
+      ap (failing p) (used-drop f rows n fits i r h e) ∙ cond-false (p (f r)) 0 (suc (failing p (drop (i + 1) (used f n rows)))) t in
       omega arith
 
   pub find-all : (i : ℕ) → n ≤ i → i ≤ n → Passed p (used f n rows) i → None ≡ position p (used f n rows)
@@ -55,50 +50,50 @@ module _ {A : Type 0} (p : A → Bool) where
   found-failing [] d h = absurd (omega arith)
   found-failing (x ∷ xs) d h = go (p x) refl (found-failing xs d)
     where
-    go : (t : Bool) → p x ≡ t → (Fails xs → found p xs ≡ Some (getD xs (failing p xs) d)) → found p (x ∷ xs) ≡ Some (getD (x ∷ xs) (failing p (x ∷ xs)) d)
-    go true e more = rw e refl
-    go false e more = rw e (more (let l : suc (failing p xs) < suc (length xs) = rw e at h in omega arith))
+      go : (t : Bool) → p x ≡ t → (Fails xs → found p xs ≡ Some (getD xs (failing p xs) d)) → found p (x ∷ xs) ≡ Some (getD (x ∷ xs) (failing p (x ∷ xs)) d)
+      go true e more = rw e refl
+      go false e more = rw e (more (let l : suc (failing p xs) < suc (length xs) = rw e at h in omega arith))
 
   amended-failing : (g : A → A) (xs : List A) (d : A) → Fails xs → amended p g xs ≡ set xs (failing p xs) (g (getD xs (failing p xs) d))
   amended-failing g [] d h = absurd (omega arith)
   amended-failing g (x ∷ xs) d h = go (p x) refl (amended-failing g xs d)
     where
-    go : (t : Bool) → p x ≡ t → (Fails xs → amended p g xs ≡ set xs (failing p xs) (g (getD xs (failing p xs) d)))
-      → amended p g (x ∷ xs) ≡ set (x ∷ xs) (failing p (x ∷ xs)) (g (getD (x ∷ xs) (failing p (x ∷ xs)) d))
-    go true e more = rw e refl
-    go false e more = rw e (ap (λ zs. x ∷ zs) (more (let l : suc (failing p xs) < suc (length xs) = rw e at h in omega arith)))
+      go : (t : Bool) → p x ≡ t → (Fails xs → amended p g xs ≡ set xs (failing p xs) (g (getD xs (failing p xs) d)))
+          → amended p g (x ∷ xs) ≡ set (x ∷ xs) (failing p (x ∷ xs)) (g (getD (x ∷ xs) (failing p (x ∷ xs)) d))
+      go true e more = rw e refl
+      go false e more = rw e (ap (λ zs. x ∷ zs) (more (let l : suc (failing p xs) < suc (length xs) = rw e at h in omega arith)))
 
   without-failing : (xs : List A) → Fails xs → without p xs ≡ removed xs (failing p xs)
   without-failing [] h = absurd (omega arith)
   without-failing (x ∷ xs) h = go (p x) refl (without-failing xs)
     where
-    go : (t : Bool) → p x ≡ t → (Fails xs → without p xs ≡ removed xs (failing p xs)) → without p (x ∷ xs) ≡ removed (x ∷ xs) (failing p (x ∷ xs))
-    go true e more = rw e refl
-    go false e more = rw e (ap (λ zs. x ∷ zs) (more (let l : suc (failing p xs) < suc (length xs) = rw e at h in omega arith)))
+      go : (t : Bool) → p x ≡ t → (Fails xs → without p xs ≡ removed xs (failing p xs)) → without p (x ∷ xs) ≡ removed (x ∷ xs) (failing p (x ∷ xs))
+      go true e more = rw e refl
+      go false e more = rw e (ap (λ zs. x ∷ zs) (more (let l : suc (failing p xs) < suc (length xs) = rw e at h in omega arith)))
 
   none-failing : (xs : List A) → length xs ≤ failing p xs → found p xs ≡ None
   none-failing [] h = refl
   none-failing (x ∷ xs) h = go (p x) refl (none-failing xs)
     where
-    go : (t : Bool) → p x ≡ t → (length xs ≤ failing p xs → found p xs ≡ None) → found p (x ∷ xs) ≡ None
-    go true e more = absurd (let l : suc (length xs) ≤ 0 = rw e at h in omega arith)
-    go false e more = rw e (more (let l : suc (length xs) ≤ suc (failing p xs) = rw e at h in omega arith))
+      go : (t : Bool) → p x ≡ t → (length xs ≤ failing p xs → found p xs ≡ None) → found p (x ∷ xs) ≡ None
+      go true e more = absurd (let l : suc (length xs) ≤ 0 = rw e at h in omega arith)
+      go false e more = rw e (more (let l : suc (length xs) ≤ suc (failing p xs) = rw e at h in omega arith))
 
   some-failing : (xs : List A) → Fails xs → isSome (found p xs) ≡ true
   some-failing [] h = absurd (omega arith)
   some-failing (x ∷ xs) h = go (p x) refl (some-failing xs)
     where
-    go : (t : Bool) → p x ≡ t → (Fails xs → isSome (found p xs) ≡ true) → isSome (found p (x ∷ xs)) ≡ true
-    go true e more = rw e refl
-    go false e more = rw e (more (let l : suc (failing p xs) < suc (length xs) = rw e at h in omega arith))
+      go : (t : Bool) → p x ≡ t → (Fails xs → isSome (found p xs) ≡ true) → isSome (found p (x ∷ xs)) ≡ true
+      go true e more = rw e refl
+      go false e more = rw e (more (let l : suc (failing p xs) < suc (length xs) = rw e at h in omega arith))
 
   -- a place is found where a row is
   pub position-found : (xs : List A) → isSome (position p xs) ≡ isSome (found p xs)
   position-found xs = go (ltb (failing p xs) (length xs)) refl
     where
-    go : (t : Bool) → ltb (failing p xs) (length xs) ≡ t → isSome (position p xs) ≡ isSome (found p xs)
-    go true e = ap isSome (cond-true _ _ _ e) ∙ sym (some-failing xs (ltb-true (failing p xs) (length xs) e))
-    go false e = ap isSome (cond-false _ _ _ e) ∙ sym (ap isSome (none-failing xs (ltb-false (failing p xs) (length xs) e)))
+      go : (t : Bool) → ltb (failing p xs) (length xs) ≡ t → isSome (position p xs) ≡ isSome (found p xs)
+      go true e = ap isSome (cond-true _ _ _ e) ∙ sym (some-failing xs (ltb-true (failing p xs) (length xs) e))
+      go false e = ap isSome (cond-false _ _ _ e) ∙ sym (ap isSome (none-failing xs (ltb-false (failing p xs) (length xs) e)))
 
   -- what a loop that found place i knows
   pub record Found (xs : List A) (i : ℕ) : Type 0 where
@@ -110,21 +105,21 @@ module _ {A : Type 0} (p : A → Bool) where
   pub position-some : (xs : List A) (i : ℕ) → Some i ≡ position p xs → Found xs i
   position-some xs i h = go (ltb (failing p xs) (length xs)) refl
     where
-    go : (t : Bool) → ltb (failing p xs) (length xs) ≡ t → Found xs i
-    go true e =
-        let at : i ≡ failing p xs = let k : Some i ≡ Some (failing p xs) = h ∙ cond-true _ _ _ e in cc in
-        let f : Fails xs = ltb-true (failing p xs) (length xs) e in
-        rw at (record {
-          inside = f;
-          it = λ d. found-failing xs d f;
-          change = λ g d. amended-failing g xs d f;
-          removal = without-failing xs f;
-        })
-    go false e = absurd (let k : Some i ≡ None = h ∙ cond-false _ _ _ e in let z : _≡_ {A = ℕ} 0 1 = cc in omega arith)
+      go : (t : Bool) → ltb (failing p xs) (length xs) ≡ t → Found xs i
+      go true e =
+          let at : i ≡ failing p xs = let k : Some i ≡ Some (failing p xs) = h ∙ cond-true _ _ _ e in cc in
+          let f : Fails xs = ltb-true (failing p xs) (length xs) e in
+          rw at (record {
+            inside = f;
+            it = λ d. found-failing xs d f;
+            change = λ g d. amended-failing g xs d f;
+            removal = without-failing xs f;
+          })
+      go false e = absurd (let k : Some i ≡ None = h ∙ cond-false _ _ _ e in let z : _≡_ {A = ℕ} 0 1 = cc in omega arith)
 
   pub position-none : (xs : List A) → None ≡ position p xs → found p xs ≡ None
   position-none xs h = go (ltb (failing p xs) (length xs)) refl
     where
-    go : (t : Bool) → ltb (failing p xs) (length xs) ≡ t → found p xs ≡ None
-    go true e = absurd (let k : None ≡ Some (failing p xs) = h ∙ cond-true _ _ _ e in let z : _≡_ {A = ℕ} 0 1 = cc in omega arith)
-    go false e = none-failing xs (ltb-false (failing p xs) (length xs) e)
+      go : (t : Bool) → ltb (failing p xs) (length xs) ≡ t → found p xs ≡ None
+      go true e = absurd (let k : None ≡ Some (failing p xs) = h ∙ cond-true _ _ _ e in let z : _≡_ {A = ℕ} 0 1 = cc in omega arith)
+      go false e = none-failing xs (ltb-false (failing p xs) (length xs) e)

@@ -27,6 +27,11 @@ module _ {R A : Type 0} (f : R → A) (rows : List R) (n : ℕ) (fits : n ≤ le
   pub used-at : (i : ℕ) (r : R) (d : A) → i < n → r ≡ getD rows i r → getD (used f n rows) i d ≡ f r
   used-at i r d h e = getD-take n (map f rows) i d h ∙ getD-map f rows i r d (omega arith) ∙ ap f (sym e)
 
+  pub used-drop : (i : ℕ) (r : R) → i < n → r ≡ getD rows i r → drop i (used f n rows) ≡ f r ∷ drop (i + 1) (used f n rows)
+  used-drop i r h e =
+      drop-more (used f n rows) i (f r) (omega (arith, used-length))
+      ∙ ap (λ x. x ∷ drop (i + 1) (used f n rows)) (used-at i r (f r) h e)
+
   -- a row in use is changed
   pub used-set : (i : ℕ) (r : R) → used f n (set rows i r) ≡ set (used f n rows) i (f r)
   used-set i r = ap (take n) (map-set f rows i r) ∙ take-set n (map f rows) i (f r)
@@ -37,18 +42,18 @@ used-add f rows n z h = ap (take (n + 1)) (map-set f rows n z) ∙ take-more-set
 
 -- one row more, behind those of a front that stays or was changed in place
 pub used-push : {R A : Type 0} (f : R → A) (rows ys : List R) (n k : ℕ) (z : R) → length ys ≡ n → n < length rows → k ≡ n
-  → used f (n + 1) (set (ys ++ drop k rows) n z) ≡ map f ys ++ (f z ∷ [])
+    → used f (n + 1) (set (ys ++ drop k rows) n z) ≡ map f ys ++ (f z ∷ [])
 used-push f rows ys n k z e h t =
     let s : set (ys ++ drop k rows) n z ≡ ys ++ (z ∷ drop (n + 1) rows) =
-      rw (t, drop-more rows n z h) (set-at ys (getD rows n z) (drop (n + 1) rows) z n e) in
+    rw (t, drop-more rows n z h) (set-at ys (getD rows n z) (drop (n + 1) rows) z n e) in
     let m : map f (ys ++ (z ∷ drop (n + 1) rows)) ≡ (map f ys ++ (f z ∷ [])) ++ map f (drop (n + 1) rows) =
-      map-append f ys (z ∷ drop (n + 1) rows) ∙ sym (append-assoc (map f ys) (f z ∷ []) (map f (drop (n + 1) rows))) in
+    map-append f ys (z ∷ drop (n + 1) rows) ∙ sym (append-assoc (map f ys) (f z ∷ []) (map f (drop (n + 1) rows))) in
     rw (s, m) (take-at (map f ys ++ (f z ∷ [])) (map f (drop (n + 1) rows)) (n + 1) (omega (arith, length-push (map f ys) (f z), length-map ys f)))
 
 -- a row moved behind all others
 pub retired : {R : Type 0} (rows zs : List R) (i : ℕ) → i < length rows
-  → zs ≡ drop 1 (take (length rows - i) (drop i rows)) ++ take 1 (take (length rows - i) (drop i rows))
-  → putMid i (length rows - i) rows zs ≡ take i rows ++ (drop (i + 1) rows ++ take 1 (drop i rows))
+    → zs ≡ drop 1 (take (length rows - i) (drop i rows)) ++ take 1 (take (length rows - i) (drop i rows))
+    → putMid i (length rows - i) rows zs ≡ take i rows ++ (drop (i + 1) rows ++ take 1 (drop i rows))
 retired rows zs i h e =
     let all : take (length rows - i) (drop i rows) ≡ drop i rows = take-rest rows i in
     let one : drop 1 (drop i rows) ≡ drop (i + 1) rows = drop-drop 1 i rows in
@@ -57,25 +62,25 @@ retired rows zs i h e =
 
 -- the rows in use without one of them, which a retirement within the front has put last
 pub used-retired : {R A : Type 0} (f : R → A) (rows part : List R) (n k i : ℕ) → n ≤ length rows → i < n
-  → part ≡ take i (take n rows) ++ (drop (i + 1) (take n rows) ++ take 1 (drop i (take n rows)))
-  → used f (n - 1) (part ++ drop k rows) ≡ removed (used f n rows) i
+    → part ≡ take i (take n rows) ++ (drop (i + 1) (take n rows) ++ take 1 (drop i (take n rows)))
+    → used f (n - 1) (part ++ drop k rows) ≡ removed (used f n rows) i
 used-retired f rows part n k i fits h e =
     let front = take i (take n rows) ++ drop (i + 1) (take n rows) in
     let last = take 1 (drop i (take n rows)) in
     let long : length front ≡ n - 1 = search (needs, places) in
     let split : part ++ drop k rows ≡ front ++ (last ++ drop k rows) =
-      ap (λ ys. ys ++ drop k rows) (e ∙ sym (append-assoc (take i (take n rows)) (drop (i + 1) (take n rows)) last)) ∙ append-assoc front last (drop k rows) in
+    ap (λ ys. ys ++ drop k rows) (e ∙ sym (append-assoc (take i (take n rows)) (drop (i + 1) (take n rows)) last)) ∙ append-assoc front last (drop k rows) in
     let cut : take (n - 1) (map f (part ++ drop k rows)) ≡ map f front =
-      ap (λ ys. take (n - 1) (map f ys)) split ∙ ap (take (n - 1)) (map-append f front (last ++ drop k rows))
-        ∙ take-at (map f front) (map f (last ++ drop k rows)) (n - 1) (length-map front f ∙ long) in
+    ap (λ ys. take (n - 1) (map f ys)) split ∙ ap (take (n - 1)) (map-append f front (last ++ drop k rows))
+    ∙ take-at (map f front) (map f (last ++ drop k rows)) (n - 1) (length-map front f ∙ long) in
     let parts : map f front ≡ take i (map f (take n rows)) ++ drop (i + 1) (map f (take n rows)) =
-      map-append f (take i (take n rows)) (drop (i + 1) (take n rows)) ∙ rw (take-map f i (take n rows), drop-map f (i + 1) (take n rows)) refl in
+    map-append f (take i (take n rows)) (drop (i + 1) (take n rows)) ∙ rw (take-map f i (take n rows), drop-map f (i + 1) (take n rows)) refl in
     cut ∙ parts ∙ rw (take-map f n rows, add-one) refl
 
 -- the same, as `retire` leaves a front of the rows
 pub used-left : {R A : Type 0} (f : R → A) (rows part : List R) (n i : ℕ) → n ≤ length rows → i < n
-  → part ≡ cond (ltb i (length (take (n - 0) rows))) (take i (take (n - 0) rows) ++ (drop (i + 1) (take (n - 0) rows) ++ take 1 (drop i (take (n - 0) rows)))) (take (n - 0) rows)
-  → used f (n - 1) (part ++ drop (n - 0) rows) ≡ removed (used f n rows) i
+    → part ≡ cond (ltb i (length (take (n - 0) rows))) (take i (take (n - 0) rows) ++ (drop (i + 1) (take (n - 0) rows) ++ take 1 (drop i (take (n - 0) rows)))) (take (n - 0) rows)
+    → used f (n - 1) (part ++ drop (n - 0) rows) ≡ removed (used f n rows) i
 used-left f rows part n i fits h e =
     let z : n - 0 ≡ n = omega arith in
     let l : i < length (take n rows) = omega (arith, length-take-le n rows fits) in

@@ -10,11 +10,12 @@ use Rattle.memory.proofs.changes.keep_others.Needs as need
 use Rattle.memory.proofs.changes.keep_others.Needs.{then-not-is-in, else-not-is-in}
 
 pub loop-i-again : need.loop-i-again
-loop-i-again c = elim (c .if-not-is-in .came)
-  [ then-not-is-in w ↦ rw (w .files-is, w .others-is)
+loop-i-again c = elim (c .if-not-is-in .came) [
+  | then-not-is-in w ↦ rw (w .files-is, w .others-is)
       (keeping-more-set (c .loop-i .inv) (omega arith) (ap not (sym (c .is-in .ensures) ∙ w .if-not-is-in .taken)) (c .index-files-i .is))
   | else-not-is-in w ↦ rw (w .files-is, w .others-is)
-      (keeping-more-no (c .loop-i .inv) (omega arith) (ap not (sym (c .is-in .ensures) ∙ w .if-not-is-in .left)) (c .index-files-i .is)) ]
+      (keeping-more-no (c .loop-i .inv) (omega arith) (ap not (sym (c .is-in .ensures) ∙ w .if-not-is-in .left)) (c .index-files-i .is))
+]
 
 pub returns : need.returns
 returns c =

@@ -12,6 +12,6 @@ pub returns : need.returns
 returns c =
     let f = c .args .self .now in
     ap (withDurable (fileOf f))
-      (c .lay .ensures
-        ∙ laid-at (bytesOf (f .durable)) (patch (c .args .bytes .now) (c .args .chosen .now)) _ (c .place-at .result) (f .header + c .args .offset)
-          (length-patch (c .args .bytes .now) (c .args .chosen .now)) (c .place-at .ensures .within) (c .place-at .ensures .past))
+    (c .lay .ensures
+    ∙ laid-at (bytesOf (f .durable)) (patch (c .args .bytes .now) (c .args .chosen .now)) _ (c .place-at .result) (f .header + c .args .offset)
+    (length-patch (c .args .bytes .now) (c .args .chosen .now)) (c .place-at .ensures .within) (c .place-at .ensures .past))

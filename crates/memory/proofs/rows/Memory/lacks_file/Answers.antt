@@ -11,4 +11,4 @@ pub returns-then-not-has-file : need.returns-then-not-has-file
 returns-then-not-has-file c =
     let m = c .args .self .now in
     ap (leb 8) (sym (used-length fileOf (m .files) (m .count) (omega arith)))
-      ∙ ap (λ (t : Bool). not t && leb 8 (length (filesOf m))) (c .if-not-has-file .ensures tt)
+    ∙ ap (λ (t : Bool). not t && leb 8 (length (filesOf m))) (c .if-not-has-file .ensures tt)

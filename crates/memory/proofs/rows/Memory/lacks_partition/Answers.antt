@@ -12,4 +12,4 @@ pub returns-then-not-has-partition : need.returns-then-not-has-partition
 returns-then-not-has-partition c =
     let m = c .args .self .now in
     ap (leb 4) (sym (used-length nameOf (m .partitions) (m .stand) (omega arith)))
-      ∙ ap (λ (t : Bool). not t && leb 4 (length (partitionsOf m))) (c .if-not-has-partition .ensures tt)
+    ∙ ap (λ (t : Bool). not t && leb 4 (length (partitionsOf m))) (c .if-not-has-partition .ensures tt)

@@ -46,7 +46,7 @@ add-file-requires c κs =
     let n = c .args .name .now in
     let absent = position-none (named p n) (filesOf m) (c .in-rest .ensures tt) in
     let room : leb 8 (length (filesOf m)) ≡ false =
-      sym (ap (λ (o : Option File). not (isSome o) && leb 8 (length (filesOf m))) absent) ∙ c .pre .room in
+    sym (ap (λ (o : Option File). not (isSome o) && leb 8 (length (filesOf m))) absent) ∙ c .pre .room in
     omega (arith, leb-false 8 (length (filesOf m)) room, used-length fileOf (m .files) (m .count) (omega arith))
 
 pub returns : need.returns
@@ -60,5 +60,5 @@ returns c =
     record {
       it = made ∙ sym (ap (λ (o : Option File). whenSome o (λ f. f) new) absent);
       state = c .add-file .ensures ∙ ap (λ (f : File). withFiles (volumeOf m) (filesOf m ++ (f ∷ []))) made
-        ∙ sym (ap (λ (o : Option File). withFiles (volumeOf m) (cond (isSome o) (filesOf m) (filesOf m ++ (new ∷ [])))) absent);
+          ∙ sym (ap (λ (o : Option File). withFiles (volumeOf m) (cond (isSome o) (filesOf m) (filesOf m ++ (new ∷ [])))) absent);
     }

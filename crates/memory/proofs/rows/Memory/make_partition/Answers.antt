@@ -13,5 +13,5 @@ pub add-partition-requires : need.add-partition-requires
 add-partition-requires c κs =
     let m = c .args .self .now in
     let room : leb 4 (length (partitionsOf m)) ≡ false =
-      ap (λ (t : Bool). not t && leb 4 (length (partitionsOf m))) (c .if-not-has-partition .ensures tt) ∙ c .pre .room in
+    ap (λ (t : Bool). not t && leb 4 (length (partitionsOf m))) (c .if-not-has-partition .ensures tt) ∙ c .pre .room in
     omega (arith, leb-false 4 (length (partitionsOf m)) room, used-length nameOf (m .partitions) (m .stand) (omega arith))

@@ -24,6 +24,6 @@ returns c =
     let m = c .args .self .now in
     let zero : m .count - 0 ≡ m .count = omega arith in
     ap (withFiles (volumeOf m))
-      (used-front fileOf (c .keep-others-self .last .files) _ (c .keep-others-self .result) (omega arith)
-        ∙ c .keep-others-self .ensures .front
-        ∙ ap (kept-by (λ f. not (inPartition (c .args .partition .now) f))) (ap (λ n. map fileOf (take n (m .files))) zero ∙ sym (take-map fileOf (m .count) (m .files))))
+    (used-front fileOf (c .keep-others-self .last .files) _ (c .keep-others-self .result) (omega arith)
+    ∙ c .keep-others-self .ensures .front
+    ∙ ap (kept-by (λ f. not (inPartition (c .args .partition .now) f))) (ap (λ n. map fileOf (take n (m .files))) zero ∙ sym (take-map fileOf (m .count) (m .files))))

@@ -8,4 +8,4 @@ use Rattle.memory.proofs.rows.Memory.seek_partition.Needs as need
 pub returns : need.returns
 returns c =
     c .ok-or .ensures .value ∙ ap (λ o. okOr o PartitionMissing) (c .find-partition .ensures)
-      ∙ place-is (volumeOf (c .args .self .now)) (c .args .partition .now) (sym (c .if-not-is-partition .ensures tt))
+    ∙ place-is (volumeOf (c .args .self .now)) (c .args .partition .now) (sym (c .if-not-is-partition .ensures tt))
