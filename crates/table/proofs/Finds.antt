@@ -9,10 +9,10 @@ use lib.ListN.{length, getD, take, drop, set}
 use Rattle.std.specs.declared.option.Option.{Option}
 use Rattle.std.specs.declared.option.Option.the-variants.{Some, None}
 use Rattle.std.specs.shelf.Lists.{removed}
-use Rattle.std.proofs.shelf.Lists.{drop-more, drop-all}
+use Rattle.std.proofs.shelf.Lists.{drop-more, drop-all, getD-default}
 use Rattle.std.proofs.shelf.Tests.{lt-ltb, le-ltb, ltb-true, ltb-false, cond-true, cond-false}
-use Rattle.table.specs.Tables.{used, failing, position, found, amended, without}
-use Rattle.table.proofs.Uses.{used-length, used-at}
+use Rattle.table.specs.Tables.{used, retiring, failing, position, found, amended, without}
+use Rattle.table.proofs.Uses.{used-length, used-at, used-set, used-retired}
 
 -- the loop has passed i rows
 abbrev pub Passed : {A : Type 0} → (A → Bool) → List A → ℕ → Type 0
@@ -111,3 +111,42 @@ module _ {A : Type 0} (p : A → Bool) where
     go : (t : Bool) → ltb (failing p xs) (length xs) ≡ t → found p xs ≡ None
     go true e = absurd (let k : None ≡ Some (failing p xs) = h ∙ cond-true _ _ _ e in let z : _≡_ {A = ℕ} 0 1 = cc in omega arith)
     go false e = none-failing xs (ltb-false (failing p xs) (length xs) e)
+
+-- what the place of a row in use says of the row
+module _ {R A : Type 0} (f : R → A) (p : A → Bool) (rows : List R) (n : ℕ) (fits : n ≤ length rows) where
+  pub record Here (i : ℕ) : Type 0 where
+    pub inside : i < n
+    pub it : (d : R) → found p (used f n rows) ≡ Some (f (getD rows i d))
+    pub change : (g : A → A) (d r : R) → f r ≡ g (f (getD rows i d)) → used f n (set rows i r) ≡ amended p g (used f n rows)
+    pub removal : (part : List R) (k : ℕ) → k ≡ n → part ≡ retiring (take k rows) i → used f (n - 1) (part ++ drop k rows) ≡ without p (used f n rows)
+
+  pub here : (i : ℕ) → Some i ≡ position p (used f n rows) → Here i
+  here i h =
+      let at = position-some p (used f n rows) i h in
+      let inside : i < n = omega (arith, at .inside, used-length f rows n fits) in
+      let is : (d : R) → getD (used f n rows) i (f d) ≡ f (getD rows i d) =
+        λ d. used-at f rows n fits i (getD rows i d) (f d) inside (getD-default rows i d (getD rows i d) (omega arith)) in
+      record {
+        inside = inside;
+        it = λ d. at .it (f d) ∙ ap Some (is d);
+        change = λ g d r new. used-set f rows n fits i r ∙ ap (set (used f n rows) i) (new ∙ ap g (sym (is d))) ∙ sym (at .change g (f d));
+        removal = λ part k e was. used-retired f rows part n k i fits e inside was ∙ sym (at .removal);
+      }
+
+-- where no row passes, a change or a removal leaves all as it is
+module _ {A : Type 0} (p : A → Bool) where
+  pub amended-none : (g : A → A) (xs : List A) → found p xs ≡ None → amended p g xs ≡ xs
+  amended-none g [] h = refl
+  amended-none g (x ∷ xs) h = go (p x) refl (amended-none g xs)
+    where
+    go : (t : Bool) → p x ≡ t → (found p xs ≡ None → amended p g xs ≡ xs) → amended p g (x ∷ xs) ≡ x ∷ xs
+    go true e more = absurd (let k : Some x ≡ None = rw e at h in let z : _≡_ {A = ℕ} 0 1 = cc in omega arith)
+    go false e more = rw e (ap (λ zs. x ∷ zs) (more (rw e at h)))
+
+  pub without-none : (xs : List A) → found p xs ≡ None → without p xs ≡ xs
+  without-none [] h = refl
+  without-none (x ∷ xs) h = go (p x) refl (without-none xs)
+    where
+    go : (t : Bool) → p x ≡ t → (found p xs ≡ None → without p xs ≡ xs) → without p (x ∷ xs) ≡ x ∷ xs
+    go true e more = absurd (let k : Some x ≡ None = rw e at h in let z : _≡_ {A = ℕ} 0 1 = cc in omega arith)
+    go false e more = rw e (ap (λ zs. x ∷ zs) (more (rw e at h)))

@@ -8,8 +8,9 @@ use native.Mathlib.Numerals.{add-one}
 use borrow.Rule.Slice.PartMut.{putMid}
 use lib.ListN.{length, getD, take, drop, set}
 use Rattle.std.specs.shelf.Lists.{removed}
-use Rattle.std.proofs.shelf.Lists.{length-take-le, length-map, getD-take, getD-map, map-set, map-append, set-at, take-at, take-map, drop-more, append-assoc, append-nil, length-push, places, take-rest, drop-drop, drop-all, drop-map}
-use Rattle.table.specs.Tables.{used}
+use Rattle.std.proofs.shelf.Lists.{length-take-le, length-map, getD-take, getD-map, map-set, map-append, take-more-set, set-at, take-at, take-map, drop-more, append-assoc, append-nil, length-push, places, take-rest, drop-drop, drop-all, drop-map}
+use Rattle.std.proofs.shelf.Tests.{lt-ltb, cond-true}
+use Rattle.table.specs.Tables.{used, retiring}
 
 take-set : {A : Type 0} (n : ℕ) (xs : List A) (i : ℕ) (x : A) → take n (set xs i x) ≡ set (take n xs) i x
 take-set zero xs i x = refl
@@ -27,6 +28,10 @@ module _ {R A : Type 0} (f : R → A) (rows : List R) (n : ℕ) (fits : n ≤ le
   -- a row in use is changed
   pub used-set : (i : ℕ) (r : R) → used f n (set rows i r) ≡ set (used f n rows) i (f r)
   used-set i r = ap (take n) (map-set f rows i r) ∙ take-set n (map f rows) i (f r)
+
+-- one row more
+pub used-more : {R A : Type 0} (f : R → A) (rows : List R) (n : ℕ) (z : R) → n < length rows → used f (n + 1) (set rows n z) ≡ used f n rows ++ (f z ∷ [])
+used-more f rows n z h = ap (take (n + 1)) (map-set f rows n z) ∙ take-more-set (map f rows) n (f z) (omega (arith, length-map rows f))
 
 -- one row more, behind those of a front that stays or was changed in place
 pub used-push : {R A : Type 0} (f : R → A) (rows ys : List R) (n k : ℕ) (z : R) → length ys ≡ n → n < length rows → k ≡ n
@@ -49,15 +54,17 @@ retired rows zs i h e =
     rw (e, all, one, none) (ap (λ ys. take i rows ++ ys) (append-nil (drop (i + 1) rows ++ take 1 (drop i rows))))
 
 -- the rows in use without one of them, which a retirement within the front has put last
-pub used-retired : {R A : Type 0} (f : R → A) (rows part : List R) (n k i : ℕ) → n ≤ length rows → i < n
-  → part ≡ take i (take n rows) ++ (drop (i + 1) (take n rows) ++ take 1 (drop i (take n rows)))
-  → used f (n - 1) (part ++ drop k rows) ≡ removed (used f n rows) i
-used-retired f rows part n k i fits h e =
+pub used-retired : {R A : Type 0} (f : R → A) (rows part : List R) (n k i : ℕ) → n ≤ length rows → k ≡ n → i < n
+  → part ≡ retiring (take k rows) i → used f (n - 1) (part ++ drop k rows) ≡ removed (used f n rows) i
+used-retired f rows part n k i fits t h e =
     let front = take i (take n rows) ++ drop (i + 1) (take n rows) in
     let last = take 1 (drop i (take n rows)) in
+    let inside : i < length (take n rows) = omega (arith, length-take-le n rows fits) in
+    let was : part ≡ take i (take n rows) ++ (drop (i + 1) (take n rows) ++ last) =
+      e ∙ ap (λ m. retiring (take m rows) i) t ∙ cond-true _ _ _ (lt-ltb i (length (take n rows)) inside) in
     let long : length front ≡ n - 1 = search (needs, places) in
     let split : part ++ drop k rows ≡ front ++ (last ++ drop k rows) =
-      ap (λ ys. ys ++ drop k rows) (e ∙ sym (append-assoc (take i (take n rows)) (drop (i + 1) (take n rows)) last)) ∙ append-assoc front last (drop k rows) in
+      ap (λ ys. ys ++ drop k rows) (was ∙ sym (append-assoc (take i (take n rows)) (drop (i + 1) (take n rows)) last)) ∙ append-assoc front last (drop k rows) in
     let cut : take (n - 1) (map f (part ++ drop k rows)) ≡ map f front =
       ap (λ ys. take (n - 1) (map f ys)) split ∙ ap (take (n - 1)) (map-append f front (last ++ drop k rows))
         ∙ take-at (map f front) (map f (last ++ drop k rows)) (n - 1) (length-map front f ∙ long) in
