@@ -29,7 +29,7 @@ impl Blob {
     }
 
     /// Puts bytes at an offset of the live bytes.
-    fn write(&mut self, offset: u64, bytes: &[u8])
+    pub(crate) fn write(&mut self, offset: u64, bytes: &[u8])
         requires { ⌜ offset + length (now bytes) + now self .header ≤ limit ⌝ }
         ensures { λ _. ⌜ handleOf (now (self .exit)) ≡ withLive (handleOf (now (self .entry))) (written (handleOf (now (self .entry)) .live) (now (self .entry) .header + offset) (now (bytes .entry))) ⌝ }
     {
@@ -38,7 +38,7 @@ impl Blob {
     }
 
     /// Cuts or zero-fills the live bytes.
-    fn resize(&mut self, len: u64)
+    pub(crate) fn resize(&mut self, len: u64)
         requires { ⌜ len + now self .header ≤ limit ⌝ }
         ensures { λ _. ⌜ handleOf (now (self .exit)) ≡ withLive (handleOf (now (self .entry))) (cut (now (self .entry) .header + len) (handleOf (now (self .entry)) .live)) ⌝ }
     {

@@ -13,6 +13,7 @@ pub struct Blob {
 }
 
 /// The handles held, in the order of their opening; the rows past the count are not used.
+#[derive(Drop)]
 pub struct Handles {
     pub(crate) rows: [Blob; 8],
     pub(crate) count: usize,

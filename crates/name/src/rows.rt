@@ -4,6 +4,7 @@ ghost use lib.ListN.{length};
 use super::row::Name;
 
 /// At most 8 names, in ascending order.
+#[derive(Drop)]
 pub struct Listing {
     pub(crate) names: [Name; 8],
     pub(crate) count: usize,

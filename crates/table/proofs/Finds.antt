@@ -12,7 +12,7 @@ use Rattle.std.specs.shelf.Lists.{removed}
 use Rattle.std.proofs.shelf.Lists.{drop-more, drop-all, getD-default}
 use Rattle.std.proofs.shelf.Tests.{lt-ltb, le-ltb, ltb-true, ltb-false, cond-true, cond-false}
 use Rattle.table.specs.Tables.{used, retiring, failing, position, found, amended, without}
-use Rattle.table.proofs.Uses.{used-length, used-at, used-set, used-retired}
+use Rattle.table.proofs.Uses.{used-length, used-at, used-set, used-retired, take-set}
 
 -- the loop has passed i rows
 abbrev pub Passed : {A : Type 0} → (A → Bool) → List A → ℕ → Type 0
@@ -118,6 +118,7 @@ module _ {R A : Type 0} (f : R → A) (p : A → Bool) (rows : List R) (n : ℕ)
     pub inside : i < n
     pub it : (d : R) → found p (used f n rows) ≡ Some (f (getD rows i d))
     pub change : (g : A → A) (d r : R) → f r ≡ g (f (getD rows i d)) → used f n (set rows i r) ≡ amended p g (used f n rows)
+    pub changed : (g : A → A) (d : R) (rows′ : List R) → map f rows′ ≡ set (map f rows) i (g (f (getD rows i d))) → used f n rows′ ≡ amended p g (used f n rows)
     pub removal : (part : List R) (k : ℕ) → k ≡ n → part ≡ retiring (take k rows) i → used f (n - 1) (part ++ drop k rows) ≡ without p (used f n rows)
 
   pub here : (i : ℕ) → Some i ≡ position p (used f n rows) → Here i
@@ -130,6 +131,7 @@ module _ {R A : Type 0} (f : R → A) (p : A → Bool) (rows : List R) (n : ℕ)
         inside = inside;
         it = λ d. at .it (f d) ∙ ap Some (is d);
         change = λ g d r new. used-set f rows n fits i r ∙ ap (set (used f n rows) i) (new ∙ ap g (sym (is d))) ∙ sym (at .change g (f d));
+        changed = λ g d rows′ new. ap (take n) new ∙ take-set n (map f rows) i (g (f (getD rows i d))) ∙ ap (λ y. set (used f n rows) i (g y)) (sym (is d)) ∙ sym (at .change g (f d));
         removal = λ part k e was. used-retired f rows part n k i fits e inside was ∙ sym (at .removal);
       }
 

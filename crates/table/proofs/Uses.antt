@@ -12,7 +12,7 @@ use Rattle.std.proofs.shelf.Lists.{length-take-le, length-map, getD-take, getD-
 use Rattle.std.proofs.shelf.Tests.{lt-ltb, cond-true}
 use Rattle.table.specs.Tables.{used, retiring}
 
-take-set : {A : Type 0} (n : ℕ) (xs : List A) (i : ℕ) (x : A) → take n (set xs i x) ≡ set (take n xs) i x
+pub take-set : {A : Type 0} (n : ℕ) (xs : List A) (i : ℕ) (x : A) → take n (set xs i x) ≡ set (take n xs) i x
 take-set zero xs i x = refl
 take-set (suc n) [] i x = refl
 take-set (suc n) (y ∷ xs) zero x = refl
