@@ -1,0 +1,4 @@
+use Rattle.reached.proofs.stores_are_sound.Needs as need
+
+pub returns : need.returns
+returns c = ?
