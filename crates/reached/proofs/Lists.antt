@@ -6,6 +6,9 @@ use Prim.Native.Nat.{ℕ, suc, _+_, _≤_, _<_}
 use native.Mathlib.Omega.{arith}
 use lib.ListN.{length}
 use Rattle.std.specs.shelf.Lists.{All, kept-by}
+use Rattle.std.specs.shelf.Text.{sameBytes}
+use Rattle.std.specs.Options.{isSome}
+use Rattle.std.proofs.shelf.Equals.{sameBytes-decides}
 use Rattle.std.specs.declared.option.Option.{Option}
 use Rattle.std.specs.declared.option.Option.the-variants.{Some, None}
 use Rattle.std.proofs.shelf.Tests.{cond-both}
@@ -13,10 +16,13 @@ use Rattle.table.specs.Tables.{found, amended, without}
 use Rattle.reached.specs.Sound.{Distinct}
 
 module _ {A : Type 0} (P : A → Type 0) where
-  pub all-amended : (p : A → Bool) (f : A → A) → ((x : A) → p x ≡ true → P x → P (f x)) → (xs : List A) → All P xs → All P (amended p f xs)
-  all-amended p f h [] a = tt
-  all-amended p f h (x ∷ xs) a =
-      cond-both (p x) (f x ∷ xs) (x ∷ amended p f xs) (All P) (λ e. (h x e (a .0), a .1)) (λ e. (a .0, all-amended p f h xs (a .1)))
+  pub all-amended : (p : A → Bool) (f : A → A) (xs : List A) → ((x : A) → found p xs ≡ Some x → P x → P (f x)) → All P xs → All P (amended p f xs)
+  all-amended p f [] h a = tt
+  all-amended p f (x ∷ xs) h a = go (p x) refl (all-amended p f xs)
+    where
+    go : (t : Bool) → p x ≡ t → (((y : A) → found p xs ≡ Some y → P y → P (f y)) → All P xs → All P (amended p f xs)) → All P (amended p f (x ∷ xs))
+    go true t more = rw t (h x (rw t refl) (a .0), a .1)
+    go false t more = rw t (a .0, more (λ y e. h y (rw t e)) (a .1))
 
   pub all-without : (p : A → Bool) (xs : List A) → All P xs → All P (without p xs)
   all-without p [] a = tt
@@ -121,3 +127,37 @@ pub length-kept : {A : Type 0} (p : A → Bool) (xs : List A) → length (kept-b
 length-kept p [] = omega arith
 length-kept p (x ∷ xs) =
     cond-both (p x) (x ∷ kept-by p xs) (kept-by p xs) (λ ys. length ys ≤ suc (length xs)) (λ e. omega (arith, length-kept p xs)) (λ e. omega (arith, length-kept p xs))
+
+-- what a filter keeps passes its test
+pub all-kept : {A : Type 0} (P Q : A → Type 0) (p : A → Bool) → ((x : A) → p x ≡ true → P x → Q x) → (xs : List A) → All P xs → All Q (kept-by p xs)
+all-kept P Q p h [] a = tt
+all-kept P Q p h (x ∷ xs) a =
+    cond-both (p x) (x ∷ kept-by p xs) (kept-by p xs) (All Q) (λ e. (h x e (a .0), all-kept P Q p h xs (a .1))) (λ e. all-kept P Q p h xs (a .1))
+
+-- what is found is still found once something else is gone
+pub found-without : {A : Type 0} (a b : A → Bool) (xs : List A) → ((x : A) → a x ≡ true → b x ≡ false) → isSome (found a xs) ≡ true → isSome (found a (without b xs)) ≡ true
+found-without a b [] h e = e
+found-without a b (x ∷ xs) h e = go (a x) (b x) refl refl (found-without a b xs h)
+  where
+  go : (s t : Bool) → a x ≡ s → b x ≡ t → (isSome (found a xs) ≡ true → isSome (found a (without b xs)) ≡ true) → isSome (found a (without b (x ∷ xs))) ≡ true
+  go true true p q more = absurd (let k : true ≡ false = sym q ∙ h x p in let z : _≡_ {A = ℕ} 0 1 = cc in omega arith)
+  go true false p q more = rw (q, p) refl
+  go false true p q more = rw q (rw p at e)
+  go false false p q more = rw (q, p) (more (rw p at e))
+
+pub same-other : (r q p : List ℕ) → sameBytes r q ≡ true → sameBytes q p ≡ false → sameBytes r p ≡ false
+same-other r q p e h = ap (λ x. sameBytes x p) (sameBytes-decides r q .0 e) ∙ h
+
+-- one more at the end is found, and what was found still is
+pub found-push : {A : Type 0} (a : A → Bool) (xs : List A) (x : A) → a x ≡ true → isSome (found a (xs ++ (x ∷ []))) ≡ true
+found-push a [] x e = rw e refl
+found-push a (y ∷ ys) x e =
+    cond-both (a y) (Some y) (found a (ys ++ (x ∷ []))) (λ o. isSome o ≡ true) (λ _. refl) (λ _. found-push a ys x e)
+
+pub found-more : {A : Type 0} (a : A → Bool) (xs ys : List A) → isSome (found a xs) ≡ true → isSome (found a (xs ++ ys)) ≡ true
+found-more a [] ys e = absurd (let k : false ≡ true = e in let z : _≡_ {A = ℕ} 0 1 = cc in omega arith)
+found-more a (x ∷ xs) ys e = go (a x) refl (found-more a xs ys)
+  where
+  go : (t : Bool) → a x ≡ t → (isSome (found a xs) ≡ true → isSome (found a (xs ++ ys)) ≡ true) → isSome (found a (x ∷ (xs ++ ys))) ≡ true
+  go true t more = rw t refl
+  go false t more = rw t (more (rw t at e))
