@@ -12,8 +12,8 @@ use Rattle.std.specs.declared.result.Result.the-variants.{Ok, Err}
 use Rattle.fault.specs.declared.Fault.the-variants.{BlobMissing}
 use Rattle.content.specs.Bytes.{limit, within, written}
 use Rattle.table.specs.Tables.{used, position, found, amended}
-use Rattle.table.proofs.Finds.{position-none}
-use Rattle.table.proofs.Places.{place-below, place-found, place-amended, absent-amended, same-amended}
+use Rattle.table.proofs.Finds.{Here, here, position-none, amended-none}
+use Rattle.table.proofs.Places.{same-amended}
 use Rattle.store.specs.Meaning.{File as Stored, Volume, withDurable, withFiles, whenSome, Done}
 use Rattle.store.specs.Durable.{generated, keepAnswer, durableWritten}
 use Rattle.store.specs.Held.{keptWithin}
@@ -22,15 +22,18 @@ use Rattle.memory.specs.declared.rows.Memory.{Memory}
 use Rattle.memory.specs.Volumes.{fileOf, filesOf, volumeOf}
 
 module _ (m : Memory) (p : Stored → Bool) (i : ℕ) (at : Some i ≡ position p (filesOf m)) where
+  row : Here fileOf p (m .files) (m .count) (omega arith) i
+  row = here fileOf p (m .files) (m .count) (omega arith) i at
+
   pub file-below : i < m .count
-  file-below = place-below fileOf p (m .files) (m .count) (omega arith) i at
+  file-below = row .inside
 
   pub file-found : (r : File) → r ≡ getD (m .files) i r → found p (filesOf m) ≡ Some (fileOf r)
-  file-found r e = place-found fileOf p (m .files) (m .count) (omega arith) i at r e
+  file-found r e = row .it r ∙ ap (λ f. Some (fileOf f)) (sym e)
 
-  pub file-amended : (r r′ : File) (g : Stored → Stored) → r ≡ getD (m .files) i r → fileOf r′ ≡ g (fileOf (getD (m .files) i r))
-      → used fileOf (m .count) (set (m .files) i r′) ≡ amended p g (filesOf m)
-  file-amended r r′ g e new = place-amended fileOf p (m .files) (m .count) (omega arith) i at r r′ g e (new ∙ ap (λ (f : File). g (fileOf f)) (sym e))
+  pub file-amended : (r r′ : File) (g : Stored → Stored) → fileOf r′ ≡ g (fileOf (getD (m .files) i r))
+    → used fileOf (m .count) (set (m .files) i r′) ≡ amended p g (filesOf m)
+  file-amended r r′ g new = row .change g r r′ new
 
 module _ (m : Memory) (g : ℕ) where
   pub keep-ok : (i : ℕ) (r : File) → Some i ≡ position (generated g) (filesOf m) → r ≡ getD (m .files) i r → Ok tt ≡ keepAnswer (volumeOf m) g
@@ -41,7 +44,7 @@ module _ (m : Memory) (g : ℕ) where
 
   -- where no file has the generation nothing changes
   pub keep-absent : None ≡ position (generated g) (filesOf m) → (change : Stored → Stored) → volumeOf m ≡ withFiles (volumeOf m) (amended (generated g) change (filesOf m))
-  keep-absent h change = sym (ap (withFiles (volumeOf m)) (absent-amended (generated g) change (filesOf m) h))
+  keep-absent h change = sym (ap (withFiles (volumeOf m)) (amended-none (generated g) change (filesOf m) (position-none (generated g) (filesOf m) h)))
 
 -- a write that each row takes within the limit is taken within the limit
 pub kept-within : (v : Volume) (g at : ℕ) (bs : List ℕ)

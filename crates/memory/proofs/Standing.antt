@@ -15,7 +15,8 @@ use Rattle.fault.specs.declared.Fault.{Fault}
 use Rattle.fault.specs.declared.Fault.the-variants.{BadPartition, PartitionMissing, BlobMissing}
 use Rattle.name.specs.Names.{isPartition}
 use Rattle.table.specs.Tables.{position, found}
-use Rattle.table.proofs.Finds.{position-found, position-none}
+use Rattle.table.proofs.Finds.{position-none}
+use Rattle.table.proofs.Places.{position-found}
 use Rattle.store.specs.Meaning.{File, Volume, whenSome}
 use Rattle.store.specs.Durable.{partitionStands, fileAt, named, inStanding, ofFile}
 use Rattle.memory.specs.Seeks.{partitionPlace, filePlace}

@@ -1,9 +1,9 @@
 -- Lists as tables: rows in use, and the first row that passes a test.
-use Prim.Native.Nat.{ℕ, suc}
+use Prim.Native.Nat.{ℕ, suc, _+_}
 use mathlib.Core.Bool.{Bool, cond}
-use mathlib.Core.List.{List, [], _∷_, map}
+use mathlib.Core.List.{List, [], _∷_, _++_, map}
 use lib.Dec.{ltb}
-use lib.ListN.{length, take}
+use lib.ListN.{length, take, drop}
 use Rattle.std.specs.declared.option.Option.{Option}
 use Rattle.std.specs.declared.option.Option.the-variants.{Some, None}
 
@@ -34,3 +34,7 @@ amended p f (x ∷ xs) = cond (p x) (f x ∷ xs) (x ∷ amended p f xs)
 abbrev pub without : {A : Type 0} → (A → Bool) → List A → List A
 without p [] = []
 without p (x ∷ xs) = cond (p x) xs (x ∷ without p xs)
+
+-- one row moved behind all others, which keep their order; a place past the end moves none
+abbrev pub retiring : {A : Type 0} → List A → ℕ → List A
+retiring xs i = cond (ltb i (length xs)) (take i xs ++ (drop (i + 1) xs ++ take 1 (drop i xs))) xs

@@ -33,7 +33,7 @@ returns-in-Some c =
     ap (withFiles (volumeOf m))
     (file-amended m (generated (c .args .generation)) (c .in-Some .i) (c .in-Some .ensures tt) (c .index-self-i .result) (c .resize .last .self)
     (λ f. withDurable f (within (f .header + len) (cut (f .header + len) (f .durable)) (f .durable)))
-    (c .index-self-i .is) (c .resize .ensures))
+    (c .resize .ensures))
 
 pub returns-in-rest : need.returns-in-rest
 returns-in-rest c =

@@ -36,7 +36,7 @@ returns-in-Some c =
     ap (withFiles (volumeOf m))
     (file-amended m (generated (c .args .generation)) (c .in-Some .i) (c .in-Some .ensures tt) (c .index-self-i .result) (c .lay .last .self)
     (λ f. withDurable f (within (f .header + at + length os) (lay (f .durable) (f .header + at) os) (f .durable)))
-    (c .index-self-i .is) (c .lay .ensures))
+    (c .lay .ensures))
 
 pub returns-in-rest : need.returns-in-rest
 returns-in-rest c =

@@ -11,8 +11,7 @@ use Rattle.std.proofs.shelf.Results.{err-from-errBy}
 use Rattle.fault.specs.declared.Fault.{Fault}
 use Rattle.name.specs.Rows.{nameOf}
 use Rattle.table.specs.Tables.{without}
-use Rattle.table.proofs.Finds.{position-some}
-use Rattle.table.proofs.Places.{place-below}
+use Rattle.table.proofs.Finds.{here, position-some}
 use Rattle.store.specs.Meaning.{Volume, withFiles, refused, whenOk, Done}
 use Rattle.store.specs.Durable.{inPartition, inStanding, removePartitionAnswer}
 use Rattle.memory.specs.Volumes.{filesOf, partitionsOf, volumeOf, withPartitions}
@@ -40,8 +39,8 @@ pub remove-partition-at-requires : need.remove-partition-at-requires
 remove-partition-at-requires c κs =
     let m = c .args .self .now in
     let p = c .args .partition .now in
-    place-below nameOf (λ q. sameBytes q p) (m .partitions) (m .stand) (omega arith) (c .in-Continue-i .i)
-    (standing-place (volumeOf m) p (c .in-Continue-i .i) (sym (c .in-Continue-i .ensures tt)))
+    here nameOf (λ q. sameBytes q p) (m .partitions) (m .stand) (omega arith) (c .in-Continue-i .i)
+      (standing-place (volumeOf m) p (c .in-Continue-i .i) (sym (c .in-Continue-i .ensures tt))) .inside
 
 pub returns : need.returns
 returns c =

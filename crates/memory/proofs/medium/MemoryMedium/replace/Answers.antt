@@ -31,5 +31,5 @@ returns c =
       answer = keep-ok m (c .args .generation) (c .in-Some .i) (c .index-self-i .result) (c .in-Some .ensures tt) (c .index-self-i .is);
       state = ap (withFiles (volumeOf m))
           (file-amended m (generated (c .args .generation)) (c .in-Some .i) (c .in-Some .ensures tt) (c .index-self-i .result) _
-          (λ f. withDurable f (bytesOf (c .args .live .now))) (c .index-self-i .is) refl);
+          (λ f. withDurable f (bytesOf (c .args .live .now))) refl);
     }

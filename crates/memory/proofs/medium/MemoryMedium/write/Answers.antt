@@ -47,6 +47,6 @@ returns c =
       answer = keep-ok m (c .args .generation) (c .in-Some .i) (c .index-self-i .result) (c .in-Some .ensures tt) (c .index-self-i .is);
       state = ap (withFiles (volumeOf m))
           (file-amended m (generated (c .args .generation)) (c .in-Some .i) (c .in-Some .ensures tt) (c .index-self-i .result) (c .write .last .self)
-          (λ f. withDurable f (within (at + length bs) (written (f .durable) at bs) (f .durable))) (c .index-self-i .is) (c .write .ensures))
+          (λ f. withDurable f (within (at + length bs) (written (f .durable) at bs) (f .durable))) (c .write .ensures))
           ∙ kept-within (volumeOf m) (c .args .generation) at bs;
     }

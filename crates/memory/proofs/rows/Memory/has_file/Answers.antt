@@ -1,6 +1,6 @@
 use mathlib.Core.Path.{ap, _∙_}
 use Rattle.std.specs.Options.{isSome}
-use Rattle.table.proofs.Finds.{position-found}
+use Rattle.table.proofs.Places.{position-found}
 use Rattle.store.specs.Durable.{named}
 use Rattle.memory.specs.Volumes.{filesOf}
 use Rattle.memory.proofs.rows.Memory.has_file.Needs as need

@@ -1,7 +1,7 @@
 use mathlib.Core.Path.{ap, _∙_}
 use Rattle.std.specs.Options.{isSome}
 use Rattle.std.specs.shelf.Text.{sameBytes}
-use Rattle.table.proofs.Finds.{position-found}
+use Rattle.table.proofs.Places.{position-found}
 use Rattle.memory.specs.Volumes.{partitionsOf}
 use Rattle.memory.proofs.rows.Memory.has_partition.Needs as need
 

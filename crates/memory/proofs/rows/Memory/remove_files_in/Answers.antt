@@ -7,7 +7,7 @@ use native.Mathlib.Omega.{arith}
 use lib.ListN.{length, take}
 use Rattle.std.specs.shelf.Lists.{kept-by}
 use Rattle.std.proofs.shelf.Lists.{places, take-map, length-take-le}
-use Rattle.table.proofs.Uses.{used-front}
+use Rattle.table.proofs.Places.{used-front}
 use Rattle.store.specs.Meaning.{File, withFiles}
 use Rattle.store.specs.Durable.{inPartition}
 use Rattle.memory.specs.Volumes.{fileOf, volumeOf}

@@ -1,8 +1,9 @@
 use mathlib.Core.Path.{ap}
+use Prim.Native.Nat.{_-_}
 use native.Mathlib.Omega.{arith}
 use borrow.Author.Needs.{needs}
 use Rattle.std.proofs.shelf.Lists.{places}
-use Rattle.table.proofs.Uses.{used-left}
+use Rattle.table.proofs.Uses.{used-retired}
 use Rattle.name.specs.Rows.{nameOf}
 use Rattle.memory.specs.Volumes.{volumeOf, withPartitions}
 use Rattle.memory.proofs.rows.Memory.remove_partition_at.Needs as need
@@ -13,4 +14,4 @@ ghost-self c = ((omega arith, search (needs, places), omega arith, search (needs
 pub returns : need.returns
 returns c =
     let m = c .args .self .now in
-    ap (withPartitions (volumeOf m)) (used-left nameOf (m .partitions) (c .retire .last .rows) (m .stand) (c .args .i) (omega arith) (c .pre) (c .retire .ensures))
+    ap (withPartitions (volumeOf m)) (used-retired nameOf (m .partitions) (c .retire .last .rows) (m .stand) (m .stand - 0) (c .args .i) (omega arith) (omega arith) (c .pre) (c .retire .ensures))

@@ -1,0 +1,116 @@
+ghost use mathlib.Core.Path.{_≡_};
+ghost use mathlib.Core.List.{map};
+ghost use Prim.Native.Nat.{ℕ, _+_, _<_, _≤_};
+ghost use lib.ListN.{length, getD, set};
+ghost use Rattle.std.specs.Options.{mapped};
+ghost use Rattle.std.specs.declared.result.Result.the-variants.{Ok, Err};
+ghost use Rattle.content.specs.Bytes.{limit, written, cut};
+ghost use Rattle.content.specs.Contents.{bytesOf};
+ghost use Rattle.store.specs.Meaning.{refused, whenOk, withLive};
+ghost use Rattle.store.specs.Live.{handleAt, writeFault, resizeFault, readAnswer, readArea, liveWritten, liveResized};
+ghost use Rattle.handles.specs.Opened.{handleOf, handlesOf};
+ghost use Rattle.handles.specs.declared.rows.Blob.{Blob as Row};
+use super::limits::{resize_fault, write_fault};
+use super::rows::{Blob, Handles};
+use content::row::Content;
+use fault::Fault;
+
+impl Handles {
+    /// Which fault a write of a length would meet before anything else.
+    pub fn ask_write(&self, number: u64, offset: u64, len: usize) -> Option<Fault>
+        ensures { λ r. ⌜ r ≡ writeFault (handlesOf (now (self .entry))) number offset len ⌝ }
+    {
+        match self.find(number) {
+            Some(i) => write_fault(offset, len, self.rows[i].header),
+            None => Some(Fault::NoHandle),
+        }
+    }
+
+    /// Which fault a resize would meet before anything else.
+    pub fn ask_resize(&self, number: u64, len: u64) -> Option<Fault>
+        ensures { λ r. ⌜ r ≡ resizeFault (handlesOf (now (self .entry))) number len ⌝ }
+    {
+        match self.find(number) {
+            Some(i) => resize_fault(len, self.rows[i].header),
+            None => Some(Fault::NoHandle),
+        }
+    }
+
+    /// Copies live bytes from an offset into an area, whose length is the read's.
+    pub fn read(&self, number: u64, offset: u64, area: &mut [u8]) -> Result<(), Fault>
+        ensures answer { λ r. ⌜ r ≡ readAnswer (handlesOf (now (self .entry))) number offset (length (now (area .entry))) ⌝ }
+        ensures put { λ _. ⌜ now (area .exit) ≡ readArea (handlesOf (now (self .entry))) number offset (now (area .entry)) ⌝ }
+    {
+        match self.find(number) {
+            Some(i) => self.rows[i].read(offset, area),
+            None => Err(Fault::NoHandle),
+        }
+    }
+
+    /// Writes live bytes.
+    pub fn write(&mut self, number: u64, offset: u64, bytes: &[u8]) -> Result<(), Fault>
+        ensures answer { λ r. ⌜ r ≡ refused (writeFault (handlesOf (now (self .entry))) number offset (length (now (bytes .entry)))) (Ok tt) ⌝ }
+        ensures state { λ r. ⌜ handlesOf (now (self .exit)) ≡ whenOk r (liveWritten (handlesOf (now (self .entry))) number offset (now (bytes .entry))) (handlesOf (now (self .entry))) ⌝ }
+        ensures counted { λ _. ⌜ now (self .exit) .issued ≡ now (self .entry) .issued ⌝ }
+    {
+        let Some(i) = self.find(number) else {
+            return Err(Fault::NoHandle);
+        };
+        if let Some(fault) = write_fault(offset, bytes.len(), self.rows[i].header) {
+            return Err(fault);
+        }
+        write_row(&mut self.rows, i, offset, bytes);
+        Ok(())
+    }
+
+    /// Cuts or zero-fills the live bytes.
+    pub fn resize(&mut self, number: u64, len: u64) -> Result<(), Fault>
+        ensures answer { λ r. ⌜ r ≡ refused (resizeFault (handlesOf (now (self .entry))) number len) (Ok tt) ⌝ }
+        ensures state { λ r. ⌜ handlesOf (now (self .exit)) ≡ whenOk r (liveResized (handlesOf (now (self .entry))) number len) (handlesOf (now (self .entry))) ⌝ }
+        ensures counted { λ _. ⌜ now (self .exit) .issued ≡ now (self .entry) .issued ⌝ }
+    {
+        let Some(i) = self.find(number) else {
+            return Err(Fault::NoHandle);
+        };
+        if let Some(fault) = resize_fault(len, self.rows[i].header) {
+            return Err(fault);
+        }
+        resize_row(&mut self.rows, i, len);
+        Ok(())
+    }
+
+    /// The generation and the header length of a handle.
+    pub fn target(&self, number: u64) -> Option<(u64, usize)>
+        ensures { λ r. ⌜ r ≡ mapped (λ h. (h .generation, h .header)) (handleAt (handlesOf (now (self .entry))) number) ⌝ }
+    {
+        let i = self.find(number)?;
+        let blob = &self.rows[i];
+        Some((blob.generation, blob.header))
+    }
+
+    /// The live bytes of a handle.
+    pub fn live(&self, number: u64) -> Option<&Content>
+        ensures { λ r. ⌜ mapped (λ x. bytesOf (now x)) r ≡ mapped (λ h. h .live) (handleAt (handlesOf (now (self .entry))) number) ⌝ }
+    {
+        let i = self.find(number)?;
+        Some(&self.rows[i].live)
+    }
+}
+
+/// Puts bytes at an offset of the live bytes of one row.
+fn write_row(rows: &mut [Blob], i: usize, offset: u64, bytes: &[u8])
+    requires inside { ⌜ i < length (now rows) ⌝ }
+    requires fits { ⌜ ((d : Row) → offset + length (now bytes) + getD (now rows) i d .header ≤ limit) ⌝ }
+    ensures { λ _. ⌜ ((d : Row) → map handleOf (now (rows .exit)) ≡ set (map handleOf (now (rows .entry))) i (withLive (handleOf (getD (now (rows .entry)) i d)) (written (bytesOf (getD (now (rows .entry)) i d .live)) (getD (now (rows .entry)) i d .header + offset) (now (bytes .entry))))) ⌝ }
+{
+    rows[i].write(offset, bytes);
+}
+
+/// Cuts or zero-fills the live bytes of one row.
+fn resize_row(rows: &mut [Blob], i: usize, len: u64)
+    requires inside { ⌜ i < length (now rows) ⌝ }
+    requires fits { ⌜ ((d : Row) → len + getD (now rows) i d .header ≤ limit) ⌝ }
+    ensures { λ _. ⌜ ((d : Row) → map handleOf (now (rows .exit)) ≡ set (map handleOf (now (rows .entry))) i (withLive (handleOf (getD (now (rows .entry)) i d)) (cut (getD (now (rows .entry)) i d .header + len) (bytesOf (getD (now (rows .entry)) i d .live))))) ⌝ }
+{
+    rows[i].resize(len);
+}

@@ -1,0 +1,5 @@
+pub mod Lists
+pub mod Keeps
+pub mod Steps
+pub mod Makes
+pub mod Runs
