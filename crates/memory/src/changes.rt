@@ -111,7 +111,7 @@ fn keep_others(files: &mut [File], partition: &[u8]) -> usize
     let mut others = 0;
     for i in 0..files.len() {
         let file = files[i];
-        if !file.is_in(partition) {
+        if file.is_outside(partition) {
             files[others] = file;
             others += 1;
         }

@@ -1,11 +1,12 @@
 //! Which row is meant.
 ghost use mathlib.Core.Path.{_≡_};
 ghost use lib.ListN.{length};
+ghost use Rattle.std.specs.Options.{mapped};
 ghost use Rattle.std.specs.shelf.Text.{sameBytes};
 ghost use Rattle.table.specs.Tables.{position};
 ghost use Rattle.store.specs.Meaning.{emptyVolume};
-ghost use Rattle.store.specs.Durable.{named, generated, partitionStands, fileStands};
-ghost use Rattle.memory.specs.Volumes.{partitionsOf, filesOf, volumeOf};
+ghost use Rattle.store.specs.Durable.{named, generated, fileAt, partitionStands, fileStands};
+ghost use Rattle.memory.specs.Volumes.{fileOf, partitionsOf, filesOf, volumeOf};
 ghost use Rattle.memory.specs.Seeks.{partitionPlace, filePlace, partitionCrowded, fileCrowded};
 use super::rows::File;
 use super::rows::Memory;
@@ -50,6 +51,14 @@ impl Memory {
             }
         }
         None
+    }
+
+    /// The file of a name.
+    pub(crate) fn lookup(&self, partition: &[u8], name: &[u8]) -> Option<&File>
+        ensures { λ r. ⌜ mapped (λ f. fileOf (now f)) r ≡ fileAt (volumeOf (now (self .entry))) (now (partition .entry)) (now (name .entry)) ⌝ }
+    {
+        let i = self.find(partition, name)?;
+        Some(&self.files[i])
     }
 
     /// The place of the file of a generation.

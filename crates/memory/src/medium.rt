@@ -101,7 +101,9 @@ pub impl Medium for Memory as MemoryMedium {
         let Some(i) = self.find_generation(generation) else {
             return Err(Fault::BlobMissing);
         };
-        self.files[i].durable = *live;
+        let mut file = self.files[i];
+        file.replace(live);
+        self.files[i] = file;
         Ok(())
     }
 
@@ -125,8 +127,8 @@ pub impl Medium for Memory as MemoryMedium {
     }
 
     fn generation_at(&self, partition: &[u8], name: &[u8]) -> Option<u64> {
-        let i = self.find(partition, name)?;
-        Some(self.files[i].generation)
+        let file = self.lookup(partition, name)?;
+        Some(file.generation)
     }
 
     fn generations_in(&self, partition: &[u8]) -> Generations {

@@ -1,6 +1,6 @@
 //! One file's row: what it is asked and how it changes.
 ghost use mathlib.Core.Path.{_≡_};
-ghost use mathlib.Core.List.{[]};
+ghost use mathlib.Core.Bool.{not};
 ghost use Prim.Native.Nat.{_+_, _≤_};
 ghost use lib.ListN.{length};
 ghost use Rattle.content.specs.Bytes.{within, written, cut};
@@ -49,11 +49,18 @@ impl File {
         self.partition.is(partition)
     }
 
+    /// Whether the file stands in another partition.
+    pub(crate) fn is_outside(&self, partition: &[u8]) -> bool
+        ensures { λ r. ⌜ r ≡ not (inPartition (now (partition .entry)) (fileOf (now (self .entry)))) ⌝ }
+    {
+        !self.is_in(partition)
+    }
+
     /// Whether the file has a name in a partition.
     pub(crate) fn is_named(&self, partition: &[u8], name: &[u8]) -> bool
         ensures { λ r. ⌜ r ≡ named (now (partition .entry)) (now (name .entry)) (fileOf (now (self .entry))) ⌝ }
     {
-        self.partition.is(partition) && self.name.is(name)
+        self.is_in(partition) && self.name.is(name)
     }
 
     /// Whether the file has a generation.
@@ -86,6 +93,13 @@ impl File {
     {
         let end = self.place(len);
         self.durable.resize(end);
+    }
+
+    /// Other durable bytes.
+    pub(crate) fn replace(&mut self, live: &Content)
+        ensures { λ _. ⌜ fileOf (now (self .exit)) ≡ withDurable (fileOf (now (self .entry))) (bytesOf (now (live .entry))) ⌝ }
+    {
+        self.durable = *live;
     }
 
     /// Writes durable bytes from a place on; past the limit nothing changes.

@@ -13,12 +13,18 @@ impl Generations {
         Generations { numbers: [0; 8], count: 0 }
     }
 
+    fn has_room(&self) -> bool
+        ensures { λ r. ⌜ r ≡ ltb (length (taken (now (self .entry)))) 8 ⌝ }
+    {
+        self.count < 8
+    }
+
     /// One more generation; a ninth changes nothing.
     pub fn push(&mut self, generation: u64)
         ensures { λ _. ⌜ taken (now (self .exit)) ≡ cond (ltb (length (taken (now (self .entry)))) 8) (taken (now (self .entry)) ++ (generation ∷ [])) (taken (now (self .entry))) ⌝ }
     {
-        let count = self.count;
-        if count < 8 {
+        if self.has_room() {
+            let count = self.count;
             self.numbers[count] = generation;
             self.count = count + 1;
         }

@@ -7,14 +7,14 @@ use Rattle.table.proofs.Places.{map-kept-by}
 use Rattle.store.specs.Durable.{inPartition}
 use Rattle.memory.specs.Volumes.{fileOf}
 use Rattle.memory.proofs.changes.keep_others.Needs as need
-use Rattle.memory.proofs.changes.keep_others.Needs.{then-not-is-in, else-not-is-in}
+use Rattle.memory.proofs.changes.keep_others.Needs.{then-is-outside, else-is-outside}
 
 pub loop-i-again : need.loop-i-again
-loop-i-again c = elim (c .if-not-is-in .came) [
-  | then-not-is-in w ↦ rw (w .files-is, w .others-is)
-      (keeping-more-set (c .loop-i .inv) (omega arith) (ap not (sym (c .is-in .ensures) ∙ w .if-not-is-in .taken)) (c .index-files-i .is))
-  | else-not-is-in w ↦ rw (w .files-is, w .others-is)
-      (keeping-more-no (c .loop-i .inv) (omega arith) (ap not (sym (c .is-in .ensures) ∙ w .if-not-is-in .left)) (c .index-files-i .is))
+loop-i-again c = elim (c .if-is-outside .came) [
+  | then-is-outside w ↦ rw (w .files-is, w .others-is)
+      (keeping-more-set (c .loop-i .inv) (omega arith) (sym (c .is-outside .ensures) ∙ w .if-is-outside .taken) (c .index-files-i .is))
+  | else-is-outside w ↦ rw (w .files-is, w .others-is)
+      (keeping-more-no (c .loop-i .inv) (omega arith) (sym (c .is-outside .ensures) ∙ w .if-is-outside .left) (c .index-files-i .is))
 ]
 
 pub returns : need.returns

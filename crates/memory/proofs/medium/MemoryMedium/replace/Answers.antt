@@ -1,4 +1,4 @@
-use mathlib.Core.Path.{refl, ap}
+use mathlib.Core.Path.{ap}
 use native.Mathlib.Omega.{arith}
 use Rattle.content.specs.Contents.{bytesOf}
 use Rattle.store.specs.Meaning.{withDurable, withFiles}
@@ -24,12 +24,21 @@ listed c = omega (arith, file-below (c .args .self .now) (generated (c .args .ge
 pub index-self-i : need.index-self-i
 index-self-i c = omega (arith, file-below (c .args .self .now) (generated (c .args .generation)) (c .in-Some .i) (c .in-Some .ensures tt))
 
+pub offset-self-i-2 : need.offset-self-i-2
+offset-self-i-2 c = omega (arith, file-below (c .args .self .now) (generated (c .args .generation)) (c .in-Some .i) (c .in-Some .ensures tt))
+
+pub listed-2 : need.listed-2
+listed-2 c = omega (arith, file-below (c .args .self .now) (generated (c .args .generation)) (c .in-Some .i) (c .in-Some .ensures tt))
+
+pub index-self-i-2 : need.index-self-i-2
+index-self-i-2 c = omega (arith, file-below (c .args .self .now) (generated (c .args .generation)) (c .in-Some .i) (c .in-Some .ensures tt))
+
 pub returns : need.returns
 returns c =
     let m = c .args .self .now in
     record {
       answer = keep-ok m (c .args .generation) (c .in-Some .i) (c .index-self-i .result) (c .in-Some .ensures tt) (c .index-self-i .is);
       state = ap (withFiles (volumeOf m))
-          (file-amended m (generated (c .args .generation)) (c .in-Some .i) (c .in-Some .ensures tt) (c .index-self-i .result) _
-          (λ f. withDurable f (bytesOf (c .args .live .now))) refl);
+          (file-amended m (generated (c .args .generation)) (c .in-Some .i) (c .in-Some .ensures tt) (c .index-self-i .result) (c .replace .last .self)
+          (λ f. withDurable f (bytesOf (c .args .live .now))) (c .replace .ensures));
     }
