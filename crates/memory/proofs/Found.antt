@@ -32,7 +32,7 @@ module _ (m : Memory) (p : Stored → Bool) (i : ℕ) (at : Some i ≡ position 
   file-found r e = row .it r ∙ ap (λ f. Some (fileOf f)) (sym e)
 
   pub file-amended : (r r′ : File) (g : Stored → Stored) → fileOf r′ ≡ g (fileOf (getD (m .files) i r))
-    → used fileOf (m .count) (set (m .files) i r′) ≡ amended p g (filesOf m)
+      → used fileOf (m .count) (set (m .files) i r′) ≡ amended p g (filesOf m)
   file-amended r r′ g new = row .change g r r′ new
 
 module _ (m : Memory) (g : ℕ) where

@@ -2,7 +2,7 @@
 ghost use mathlib.Core.Path.{_≡_};
 ghost use mathlib.Core.Bool.{cond, not, false};
 ghost use mathlib.Core.List.{[], _∷_, _++_, map};
-ghost use Prim.Native.Nat.{_+_, _<_, _≤_};
+ghost use Prim.Native.Nat.{_<_, _≤_};
 ghost use lib.ListN.{length, take};
 ghost use Rattle.std.specs.shelf.Lists.{kept-by, removed};
 ghost use Rattle.name.specs.Rows.{nameOf};
@@ -16,6 +16,7 @@ use name::row::Name;
 use table::retire;
 
 impl Memory {
+    /// One more partition, behind the others.
     fn add_partition(&mut self, partition: Name)
         requires { ⌜ now self .stand < 4 ⌝ }
         ensures { λ _. ⌜ volumeOf (now (self .exit)) ≡ withPartitions (volumeOf (now (self .entry))) (partitionsOf (now (self .entry)) ++ (nameOf partition ∷ [])) ⌝ }
@@ -25,6 +26,7 @@ impl Memory {
         self.stand = stand + 1;
     }
 
+    /// One more file, behind the others.
     fn add_file(&mut self, file: File)
         requires { ⌜ now self .count < 8 ⌝ }
         ensures { λ _. ⌜ volumeOf (now (self .exit)) ≡ withFiles (volumeOf (now (self .entry))) (filesOf (now (self .entry)) ++ (fileOf file ∷ [])) ⌝ }

@@ -1,6 +1,5 @@
 //! Which row is meant.
 ghost use mathlib.Core.Path.{_≡_};
-ghost use lib.ListN.{length};
 ghost use Rattle.std.specs.Options.{mapped};
 ghost use Rattle.std.specs.shelf.Text.{sameBytes};
 ghost use Rattle.table.specs.Tables.{position};

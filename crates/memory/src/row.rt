@@ -70,11 +70,11 @@ impl File {
         self.generation == generation
     }
 
-    /// The place in the durable bytes of an offset, which counts from the end of the header; one that passes every
-    /// number is past the limit all the same.
+    /// The place in the durable bytes of an offset, which counts from the end of the header. A sum past the largest
+    /// number gives that number, which is past the limit too.
     fn place(&self, offset: u64) -> usize
         ensures within { λ r. ⌜ (r ≤ 1016 → r ≡ now (self .entry) .header + offset) ⌝ }
-        ensures past { λ r. ⌜ (now (self .entry) .header + offset ≤ 1016 → r ≡ now (self .entry) .header + offset) ⌝ }
+        ensures reached { λ r. ⌜ (now (self .entry) .header + offset ≤ 1016 → r ≡ now (self .entry) .header + offset) ⌝ }
     {
         self.header.saturating_add(offset as usize)
     }

@@ -40,7 +40,7 @@ remove-partition-at-requires c κs =
     let m = c .args .self .now in
     let p = c .args .partition .now in
     here nameOf (λ q. sameBytes q p) (m .partitions) (m .stand) (omega arith) (c .in-Continue-i .i)
-      (standing-place (volumeOf m) p (c .in-Continue-i .i) (sym (c .in-Continue-i .ensures tt))) .inside
+    (standing-place (volumeOf m) p (c .in-Continue-i .i) (sym (c .in-Continue-i .ensures tt))) .inside
 
 pub returns : need.returns
 returns c =

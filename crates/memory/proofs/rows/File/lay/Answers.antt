@@ -14,4 +14,4 @@ returns c =
     ap (withDurable (fileOf f))
     (c .lay .ensures
     ∙ laid-at (bytesOf (f .durable)) (patch (c .args .bytes .now) (c .args .chosen .now)) _ (c .place-at .result) (f .header + c .args .offset)
-    (length-patch (c .args .bytes .now) (c .args .chosen .now)) (c .place-at .ensures .within) (c .place-at .ensures .past))
+    (length-patch (c .args .bytes .now) (c .args .chosen .now)) (c .place-at .ensures .within) (c .place-at .ensures .reached))

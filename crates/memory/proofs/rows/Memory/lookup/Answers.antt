@@ -11,7 +11,7 @@ use Rattle.memory.proofs.rows.Memory.lookup.Needs as need
 pub returns-in-Break-i : need.returns-in-Break-i
 returns-in-Break-i c =
     rw (c .from-residual .ensures)
-      (sym (position-none (named (c .args .partition .now) (c .args .name .now)) (filesOf (c .args .self .now)) (c .in-Break-i .ensures tt)))
+    (sym (position-none (named (c .args .partition .now) (c .args .name .now)) (filesOf (c .args .self .now)) (c .in-Break-i .ensures tt)))
 
 pub offset-self-i : need.offset-self-i
 offset-self-i c = omega (arith, file-below (c .args .self .now) (named (c .args .partition .now) (c .args .name .now)) (c .in-Continue-i .i) (c .in-Continue-i .ensures tt))
@@ -25,4 +25,4 @@ index-self-i c = omega (arith, file-below (c .args .self .now) (named (c .args .
 pub returns : need.returns
 returns c =
     ap (λ (r : File). Some (fileOf r)) (sym (c .index-self-i .is))
-      ∙ sym (file-found (c .args .self .now) (named (c .args .partition .now) (c .args .name .now)) (c .in-Continue-i .i) (c .in-Continue-i .ensures tt) (c .index-self-i .result) (c .index-self-i .is))
+    ∙ sym (file-found (c .args .self .now) (named (c .args .partition .now) (c .args .name .now)) (c .in-Continue-i .i) (c .in-Continue-i .ensures tt) (c .index-self-i .result) (c .index-self-i .is))
