@@ -3,15 +3,13 @@ use mathlib.Core.List.{List, _++_}
 use Prim.Native.Nat.{ℕ, _+_, _*_, _<_, _≤_}
 use native.Mathlib.Omega.{arith}
 use lib.ListN.{length, take, drop}
-use Rattle.std.specs.declared.result.Result.the-variants.{Ok}
 use Rattle.std.proofs.shelf.Lists.{length-append, length-take-le, take-all}
-use Rattle.std.proofs.shelf.Tests.{le-ltb, cond-false}
 use Rattle.table.proofs.Uses.{used-length, used-at}
-use Rattle.name.specs.Listings.{listing, first, scanArea}
+use Rattle.name.specs.Listings.{listing, first}
 use Rattle.name.specs.Rows.{nameOf, namesOf}
 use Rattle.name.specs.declared.row.Name.{Name}
 use Rattle.name.proofs.Listed.{entry, listing-more, first-more}
-use Rattle.name.proofs.rows.Listing.write.Needs as need
+use Rattle.name.proofs.rows.Listing.fill.Needs as need
 
 pub loop-i-holds : need.loop-i-holds
 loop-i-holds c = (refl, refl, omega arith)
@@ -42,8 +40,7 @@ pub returns : need.returns
 returns c =
     let l = c .args .self .now in
     let all : take (c .loop-i .i) (namesOf l) ≡ namesOf l = take-all (c .loop-i .i) (namesOf l) (omega (arith, used-length nameOf (l .names) (l .count) (omega arith))) in
-    let room = le-ltb (length (c .args .area .now)) scanArea (c .if-area-lt-SCAN-AREA .left) in
     record {
-      answer = ap Ok (c .loop-i .inv .1 ∙ ap (λ ns. length (listing ns)) all) ∙ sym (cond-false _ _ _ room);
-      put = c .loop-i .inv .0 ∙ ap (λ ns. first (listing ns) (c .args .area .now)) all ∙ sym (cond-false _ _ _ room);
+      count = c .loop-i .inv .1 ∙ ap (λ ns. length (listing ns)) all;
+      put = c .loop-i .inv .0 ∙ ap (λ ns. first (listing ns) (c .args .area .now)) all;
     }

@@ -3,7 +3,7 @@ use Prim.Native.Nat.{_≤_, _*_}
 use lib.ListN.{length, take}
 use Rattle.name.specs.Listings.{listing, first}
 use Rattle.name.specs.Rows.{namesOf}
-use Rattle.name.proofs.rows.Listing.write.Given as given
+use Rattle.name.proofs.rows.Listing.fill.Given as given
 
 abbrev pub Inv-loop-i : given.InvT-loop-i
 Inv-loop-i l =
