@@ -2,7 +2,7 @@
 use mathlib.Core.Path.{_≡_, refl, ap, sym, _∙_}
 use mathlib.Core.Bool.{Bool, true, false, cond}
 use mathlib.Core.List.{List, [], _∷_, _++_, map}
-use Prim.Native.Nat.{ℕ, _+_, _<_, _≤_}
+use Prim.Native.Nat.{ℕ, suc, _+_, _<_, _≤_}
 use native.Mathlib.Omega.{arith}
 use lib.ListN.{length, getD, take, drop, set}
 use Rattle.std.proofs.shelf.Lists.{drop-more, drop-all, take-all, take-more, take-more-set, drop-set-lt, append-assoc, getD-map, map-set, length-map}
@@ -42,3 +42,11 @@ module _ {R : Type 0} (f : R → List ℕ) (rows : List R) (i : ℕ) (h : i < le
 
 pub pass-done : (ms : List (List ℕ)) (i : ℕ) (n : List ℕ) → length ms ≤ i → ms ++ (n ∷ []) ≡ passing ms i n
 pass-done ms i n h = rw (take-all i ms h, drop-all i ms h) refl
+
+pub length-placed : (n : List ℕ) (ms : List (List ℕ)) → length (placed n ms) ≡ suc (length ms)
+length-placed n [] = refl
+length-placed n (m ∷ ms) = go (before n m) refl (length-placed m ms) (length-placed n ms)
+  where
+    go : (t : Bool) → before n m ≡ t → length (placed m ms) ≡ suc (length ms) → length (placed n ms) ≡ suc (length ms) → length (placed n (m ∷ ms)) ≡ suc (length (m ∷ ms))
+    go true e moved stays = rw e (ap suc moved)
+    go false e moved stays = rw e (ap suc stays)

@@ -14,6 +14,7 @@ use fault::Fault;
 use generations::Generations;
 use limits::{look_fault, remove_fault, remove_partition_fault, scan_fault};
 
+pub mod gather;
 pub mod generations;
 pub mod limits;
 pub mod medium;

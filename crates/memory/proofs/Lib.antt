@@ -1,0 +1,4 @@
+pub mod Laid
+pub mod Standing
+pub mod Found
+pub mod Rooms
