@@ -93,6 +93,26 @@ impl Handles {
     }
 }
 
+impl Blob {
+    /// Puts bytes at an offset of the live bytes.
+    fn write(&mut self, offset: u64, bytes: &[u8])
+        requires { ⌜ offset + length (now bytes) + now self .header ≤ limit ⌝ }
+        ensures { λ _. ⌜ handleOf (now (self .exit)) ≡ withLive (handleOf (now (self .entry))) (written (handleOf (now (self .entry)) .live) (now (self .entry) .header + offset) (now (bytes .entry))) ⌝ }
+    {
+        let at = self.header + offset as usize;
+        self.live.write(at, bytes);
+    }
+
+    /// Cuts or zero-fills the live bytes.
+    fn resize(&mut self, len: u64)
+        requires { ⌜ len + now self .header ≤ limit ⌝ }
+        ensures { λ _. ⌜ handleOf (now (self .exit)) ≡ withLive (handleOf (now (self .entry))) (cut (now (self .entry) .header + len) (handleOf (now (self .entry)) .live)) ⌝ }
+    {
+        let end = self.header + len as usize;
+        self.live.resize(end);
+    }
+}
+
 /// Puts bytes at an offset of the live bytes of one row.
 fn write_row(rows: &mut [Blob], i: usize, offset: u64, bytes: &[u8])
     requires inside { ⌜ i < length (now rows) ⌝ }
