@@ -9,8 +9,8 @@ use lib.ListN.{length, getD, take, drop}
 use Rattle.std.specs.declared.option.Option.{Option}
 use Rattle.std.specs.declared.option.Option.the-variants.{Some, None}
 use Rattle.std.proofs.shelf.Lists.{drop-more, drop-all}
-use Rattle.std.proofs.shelf.Tests.{le-leb, cond-true}
-use Rattle.content.specs.Bytes.{limit, within, written}
+use Rattle.std.proofs.shelf.Tests.{cond-true}
+use Rattle.content.specs.Bytes.{written}
 use Rattle.content.specs.Patches.{Patch, patch, lay}
 
 pub length-patch : (bs : List ℕ) (fs : List Bool) → length (patch bs fs) ≡ length bs
@@ -64,9 +64,8 @@ module _ (xs : List ℕ) (at : ℕ) (bs : List ℕ) (fs : List Bool) where
       rw (e, f) refl
 
   -- a turn that stores the byte before place i
-  pub lay-byte : (i : ℕ) → 0 < i → i ≤ length bs → at + length bs ≤ limit → getD fs (i - 1) false ≡ true → (zs : List ℕ) → zs ≡ laidFrom xs at bs fs i
-    → let piece = take (i - 1 + 1 - (i - 1)) (drop (i - 1) bs) in within (at + (i - 1) + length piece) (written zs (at + (i - 1)) piece) zs ≡ laidFrom xs at bs fs (i - 1)
-  lay-byte i z h fits chosen zs e =
+  pub lay-byte : (i : ℕ) → 0 < i → i ≤ length bs → getD fs (i - 1) false ≡ true → (zs : List ℕ) → zs ≡ laidFrom xs at bs fs i
+    → written zs (at + (i - 1)) (take (i - 1 + 1 - (i - 1)) (drop (i - 1) bs)) ≡ laidFrom xs at bs fs (i - 1)
+  lay-byte i z h chosen zs e =
       let one = one-byte bs (i - 1) (omega arith) in
-      let end : at + (i - 1) + 1 ≤ limit = omega arith in
-      rw (one, e) (cond-true _ _ _ (le-leb _ _ end)) ∙ sym (lay-more i z h ∙ cond-true _ _ _ chosen)
+      rw (one, e) refl ∙ sym (lay-more i z h ∙ cond-true _ _ _ chosen)

@@ -13,7 +13,7 @@ limit = 1016
 abbrev pub filled : ℕ → List ℕ → List ℕ
 filled n xs = xs ++ replicate (n - length xs) 0
 
--- a write: zeros up to its end where the content is shorter, and then its bytes from a place on
+-- a write: its bytes from a place on, after zeros where the content is shorter; what is behind them stays
 unfoldable pub written : List ℕ → ℕ → List ℕ → List ℕ
 written xs at ys = take at (filled at xs) ++ (ys ++ drop (at + length ys) xs)
 
@@ -25,6 +25,6 @@ cut n xs = take n (filled n xs)
 abbrev pub within : ℕ → List ℕ → List ℕ → List ℕ
 within end new old = cond (leb end limit) new old
 
--- zeros from one place up to another, if that is further on
+-- a row with zeros from one place up to another, if that is further on: a step of the code, not a change of a file
 unfoldable pub zeroed : List ℕ → ℕ → ℕ → List ℕ
 zeroed xs from to = take from xs ++ (replicate (to - from) 0 ++ drop (from + (to - from)) xs)

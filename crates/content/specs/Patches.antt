@@ -16,7 +16,7 @@ patch (b ∷ bs) [] = None ∷ patch bs []
 patch (b ∷ bs) (f ∷ flags) = cond f (Some b) None ∷ patch bs flags
 
 -- a patch laid over a content from a place on: each of its bytes is stored, with zeros up to it where the content is
--- shorter, and what it has no byte for stays
+-- shorter, and what it has no byte for stays; the last byte comes first, which makes no difference
 abbrev pub lay : List ℕ → ℕ → Patch → List ℕ
 lay xs at [] = xs
 lay xs at (None ∷ os) = lay xs (suc at) os

@@ -13,7 +13,7 @@ prefix rate zero w = []
 prefix rate (suc n) w =
     cond (rolled rate w) (true ∷ prefix rate n (after (rollTaken rate) w)) (replicate (suc n) false)
 
--- the words of the rolls up to the first no, which is the last one to take any
+-- how many words that takes: a roll for each selected place, and one for the place that says no, if any
 abbrev pub prefixTaken : (rate n : ℕ) → Words → ℕ
 prefixTaken rate zero w = 0
 prefixTaken rate (suc n) w =
@@ -28,10 +28,12 @@ subset rate (suc n) w = rolled rate w ∷ subset rate n (after (rollTaken rate) 
 abbrev pub subsetTaken : (rate n : ℕ) → ℕ
 subsetTaken rate n = n * rollTaken rate
 
+-- the selection of a mode
 abbrev pub selected : PartialWriteMode → (rate n : ℕ) → Words → List Bool
 selected Prefix rate n w = prefix rate n w
 selected Subset rate n w = subset rate n w
 
+-- and how many words it takes
 abbrev pub selectTaken : PartialWriteMode → (rate n : ℕ) → Words → ℕ
 selectTaken Prefix rate n w = prefixTaken rate n w
 selectTaken Subset rate n w = subsetTaken rate n

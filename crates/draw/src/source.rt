@@ -6,6 +6,7 @@ ghost use Rattle.draw.specs.Words.{Words, Narrow, front, rest, after, rolled, 
 pub trait Source {
     ghost words: { Self → Words };
 
+    // each word is below 65,536
     ghost narrow: { Narrow words };
 
     /// Takes the next word.

@@ -46,15 +46,16 @@ pub enum Fault {
     ReadOverflow,
     /// A rate over 65,536.
     BadRate,
-    /// An area too short for a scan or a look, or a medium of another length than it must have.
+    /// A scan area under 136 bytes, a look area under 1,016, or a medium that has not 12,800.
     ShortArea,
     /// A write or a resize would pass 1,016 bytes, header included.
     NoSpace,
-    /// No room for one more handle, partition or file, or no handle number left.
+    /// An open with 8 handles held or 1,000,000 issued, or of an absent partition while 4 stand, or of an absent file
+    /// while 8 stand.
     TableFull,
-    /// No room for one more ticket, or no ticket number left.
+    /// A sync started with 8 tickets held or 1,000,000 issued.
     TicketsFull,
-    /// The log holds as many entries as it can.
+    /// The log holds 32 entries.
     LogFull,
     /// A fault that the bench injected.
     Injected(Op),
@@ -62,7 +63,7 @@ pub enum Fault {
     BadPartition,
     /// No such partition stands.
     PartitionMissing,
-    /// No such file stands.
+    /// No such file stands, or no file has the handle's generation.
     BlobMissing,
     /// The file is leased to another handle.
     AlreadyOpen,

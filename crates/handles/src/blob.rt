@@ -1,8 +1,6 @@
 ghost use mathlib.Core.Path.{_≡_};
-ghost use Prim.Native.Nat.{_+_, _≤_};
 ghost use lib.ListN.{length};
-ghost use Rattle.content.specs.Bytes.{limit, written, cut};
-ghost use Rattle.store.specs.Meaning.{withLive, whenOk};
+ghost use Rattle.store.specs.Meaning.{whenOk};
 ghost use Rattle.store.specs.Live.{readOf, readBytes};
 ghost use Rattle.handles.specs.Opened.{handleOf};
 use super::rows::Blob;
@@ -26,23 +24,5 @@ impl Blob {
         let at = self.header + offset as usize;
         area.copy_from_slice(&self.live.as_slice()[at..at + area.len()]);
         Ok(())
-    }
-
-    /// Puts bytes at an offset of the live bytes.
-    pub(crate) fn write(&mut self, offset: u64, bytes: &[u8])
-        requires { ⌜ offset + length (now bytes) + now self .header ≤ limit ⌝ }
-        ensures { λ _. ⌜ handleOf (now (self .exit)) ≡ withLive (handleOf (now (self .entry))) (written (handleOf (now (self .entry)) .live) (now (self .entry) .header + offset) (now (bytes .entry))) ⌝ }
-    {
-        let at = self.header + offset as usize;
-        self.live.write(at, bytes);
-    }
-
-    /// Cuts or zero-fills the live bytes.
-    pub(crate) fn resize(&mut self, len: u64)
-        requires { ⌜ len + now self .header ≤ limit ⌝ }
-        ensures { λ _. ⌜ handleOf (now (self .exit)) ≡ withLive (handleOf (now (self .entry))) (cut (now (self .entry) .header + len) (handleOf (now (self .entry)) .live)) ⌝ }
-    {
-        let end = self.header + len as usize;
-        self.live.resize(end);
     }
 }

@@ -2,17 +2,16 @@ ghost use mathlib.Core.Path.{_≡_};
 ghost use mathlib.Core.List.{map};
 ghost use Prim.Native.Nat.{ℕ, _+_, _<_, _≤_};
 ghost use lib.ListN.{length, getD, set};
-ghost use Rattle.std.specs.Options.{mapped};
-ghost use Rattle.std.specs.declared.result.Result.the-variants.{Ok, Err};
+ghost use Rattle.std.specs.declared.result.Result.the-variants.{Ok};
+ghost use Rattle.std.specs.declared.option.Option.the-variants.{None};
 ghost use Rattle.content.specs.Bytes.{limit, written, cut};
 ghost use Rattle.content.specs.Contents.{bytesOf};
 ghost use Rattle.store.specs.Meaning.{refused, whenOk, withLive};
-ghost use Rattle.store.specs.Live.{handleAt, writeFault, resizeFault, readAnswer, readArea, liveWritten, liveResized};
+ghost use Rattle.store.specs.Live.{writeFault, resizeFault, readAnswer, readArea, liveWritten, liveResized};
 ghost use Rattle.handles.specs.Opened.{handleOf, handlesOf};
 ghost use Rattle.handles.specs.declared.rows.Blob.{Blob as Row};
 use super::limits::{resize_fault, write_fault};
 use super::rows::{Blob, Handles};
-use content::row::Content;
 use fault::Fault;
 
 impl Handles {
@@ -20,8 +19,8 @@ impl Handles {
     pub fn ask_write(&self, number: u64, offset: u64, len: usize) -> Option<Fault>
         ensures { λ r. ⌜ r ≡ writeFault (handlesOf (now (self .entry))) number offset len ⌝ }
     {
-        match self.find(number) {
-            Some(i) => write_fault(offset, len, self.rows[i].header),
+        match self.get(number) {
+            Some(blob) => write_fault(offset, len, blob.header),
             None => Some(Fault::NoHandle),
         }
     }
@@ -30,8 +29,8 @@ impl Handles {
     pub fn ask_resize(&self, number: u64, len: u64) -> Option<Fault>
         ensures { λ r. ⌜ r ≡ resizeFault (handlesOf (now (self .entry))) number len ⌝ }
     {
-        match self.find(number) {
-            Some(i) => resize_fault(len, self.rows[i].header),
+        match self.get(number) {
+            Some(blob) => resize_fault(len, blob.header),
             None => Some(Fault::NoHandle),
         }
     }
@@ -41,8 +40,8 @@ impl Handles {
         ensures answer { λ r. ⌜ r ≡ readAnswer (handlesOf (now (self .entry))) number offset (length (now (area .entry))) ⌝ }
         ensures put { λ _. ⌜ now (area .exit) ≡ readArea (handlesOf (now (self .entry))) number offset (now (area .entry)) ⌝ }
     {
-        match self.find(number) {
-            Some(i) => self.rows[i].read(offset, area),
+        match self.get(number) {
+            Some(blob) => blob.read(offset, area),
             None => Err(Fault::NoHandle),
         }
     }
@@ -53,13 +52,10 @@ impl Handles {
         ensures state { λ r. ⌜ handlesOf (now (self .exit)) ≡ whenOk r (liveWritten (handlesOf (now (self .entry))) number offset (now (bytes .entry))) (handlesOf (now (self .entry))) ⌝ }
         ensures counted { λ _. ⌜ now (self .exit) .issued ≡ now (self .entry) .issued ⌝ }
     {
-        let Some(i) = self.find(number) else {
-            return Err(Fault::NoHandle);
-        };
-        if let Some(fault) = write_fault(offset, bytes.len(), self.rows[i].header) {
+        if let Some(fault) = self.ask_write(number, offset, bytes.len()) {
             return Err(fault);
         }
-        write_row(&mut self.rows, i, offset, bytes);
+        self.put(number, offset, bytes);
         Ok(())
     }
 
@@ -69,31 +65,51 @@ impl Handles {
         ensures state { λ r. ⌜ handlesOf (now (self .exit)) ≡ whenOk r (liveResized (handlesOf (now (self .entry))) number len) (handlesOf (now (self .entry))) ⌝ }
         ensures counted { λ _. ⌜ now (self .exit) .issued ≡ now (self .entry) .issued ⌝ }
     {
-        let Some(i) = self.find(number) else {
-            return Err(Fault::NoHandle);
-        };
-        if let Some(fault) = resize_fault(len, self.rows[i].header) {
+        if let Some(fault) = self.ask_resize(number, len) {
             return Err(fault);
         }
-        resize_row(&mut self.rows, i, len);
+        self.set_len(number, len);
         Ok(())
     }
 
-    /// The generation and the header length of a handle.
-    pub fn target(&self, number: u64) -> Option<(u64, usize)>
-        ensures { λ r. ⌜ r ≡ mapped (λ h. (h .generation, h .header)) (handleAt (handlesOf (now (self .entry))) number) ⌝ }
+    fn put(&mut self, number: u64, offset: u64, bytes: &[u8])
+        requires { ⌜ writeFault (handlesOf (now self)) number offset (length (now bytes)) ≡ None ⌝ }
+        ensures state { λ _. ⌜ handlesOf (now (self .exit)) ≡ liveWritten (handlesOf (now (self .entry))) number offset (now (bytes .entry)) ⌝ }
+        ensures counted { λ _. ⌜ now (self .exit) .issued ≡ now (self .entry) .issued ⌝ }
     {
-        let i = self.find(number)?;
-        let blob = &self.rows[i];
-        Some((blob.generation, blob.header))
+        if let Some(i) = self.find(number) {
+            write_row(&mut self.rows, i, offset, bytes);
+        }
     }
 
-    /// The live bytes of a handle.
-    pub fn live(&self, number: u64) -> Option<&Content>
-        ensures { λ r. ⌜ mapped (λ x. bytesOf (now x)) r ≡ mapped (λ h. h .live) (handleAt (handlesOf (now (self .entry))) number) ⌝ }
+    fn set_len(&mut self, number: u64, len: u64)
+        requires { ⌜ resizeFault (handlesOf (now self)) number len ≡ None ⌝ }
+        ensures state { λ _. ⌜ handlesOf (now (self .exit)) ≡ liveResized (handlesOf (now (self .entry))) number len ⌝ }
+        ensures counted { λ _. ⌜ now (self .exit) .issued ≡ now (self .entry) .issued ⌝ }
     {
-        let i = self.find(number)?;
-        Some(&self.rows[i].live)
+        if let Some(i) = self.find(number) {
+            resize_row(&mut self.rows, i, len);
+        }
+    }
+}
+
+impl Blob {
+    /// Puts bytes at an offset of the live bytes.
+    fn write(&mut self, offset: u64, bytes: &[u8])
+        requires { ⌜ offset + length (now bytes) + now self .header ≤ limit ⌝ }
+        ensures { λ _. ⌜ handleOf (now (self .exit)) ≡ withLive (handleOf (now (self .entry))) (written (handleOf (now (self .entry)) .live) (now (self .entry) .header + offset) (now (bytes .entry))) ⌝ }
+    {
+        let at = self.header + offset as usize;
+        self.live.write(at, bytes);
+    }
+
+    /// Cuts or zero-fills the live bytes.
+    fn resize(&mut self, len: u64)
+        requires { ⌜ len + now self .header ≤ limit ⌝ }
+        ensures { λ _. ⌜ handleOf (now (self .exit)) ≡ withLive (handleOf (now (self .entry))) (cut (now (self .entry) .header + len) (handleOf (now (self .entry)) .live)) ⌝ }
+    {
+        let end = self.header + len as usize;
+        self.live.resize(end);
     }
 }
 

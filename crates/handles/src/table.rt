@@ -1,5 +1,5 @@
 ghost use mathlib.Core.Path.{_≡_};
-ghost use mathlib.Core.Bool.{cond};
+ghost use mathlib.Core.Bool.{false, cond};
 ghost use mathlib.Core.List.{[]};
 ghost use Prim.Native.Nat.{ℕ, _+_, _<_};
 ghost use lib.ListN.{length};
@@ -63,11 +63,26 @@ impl Handles {
         None
     }
 
+    /// A handle that is held.
+    pub fn get(&self, number: u64) -> Option<&Blob>
+        ensures { λ r. ⌜ mapped (λ b. handleOf (now b)) r ≡ handleAt (handlesOf (now (self .entry))) number ⌝ }
+    {
+        let i = self.find(number)?;
+        Some(&self.rows[i])
+    }
+
+    /// How many handles are held.
+    pub fn len(&self) -> usize
+        ensures { λ r. ⌜ r ≡ length (handlesOf (now (self .entry))) ⌝ }
+    {
+        self.count
+    }
+
     /// Whether one more handle finds no place or no number.
     pub fn is_full(&self) -> bool
         ensures { λ r. ⌜ r ≡ handlesFull (handlesOf (now (self .entry))) (now (self .entry) .issued) ⌝ }
     {
-        self.count >= HANDLE_LIMIT || self.issued >= ISSUE_LIMIT
+        self.len() >= HANDLE_LIMIT || self.issued >= ISSUE_LIMIT
     }
 
     /// One more handle; gives its number.
@@ -80,18 +95,27 @@ impl Handles {
             return Err(Fault::TableFull);
         }
         let number = self.issued;
+        self.push(generation, header, live);
+        Ok(number)
+    }
+
+    fn push(&mut self, generation: u64, header: usize, live: &Content)
+        requires { ⌜ handlesFull (handlesOf (now self)) (now self .issued) ≡ false ⌝ }
+        ensures state { λ _. ⌜ handlesOf (now (self .exit)) ≡ handlesWith (handlesOf (now (self .entry))) (now (self .entry) .issued) generation header (bytesOf (now (live .entry))) ⌝ }
+        ensures counted { λ _. ⌜ now (self .exit) .issued ≡ now (self .entry) .issued + 1 ⌝ }
+    {
+        let number = self.issued;
         let count = self.count;
         self.rows[count] = Blob { number, generation, header, live: *live };
         self.count = count + 1;
         self.issued = number + 1;
-        Ok(number)
     }
 
     /// Which fault a call on a handle meets if it is not held.
     pub fn ask(&self, number: u64) -> Option<Fault>
         ensures { λ r. ⌜ r ≡ heldFault (handlesOf (now (self .entry))) number ⌝ }
     {
-        match self.find(number) {
+        match self.get(number) {
             Some(_) => None,
             None => Some(Fault::NoHandle),
         }
@@ -101,8 +125,10 @@ impl Handles {
     pub fn generation(&self, number: u64) -> Option<u64>
         ensures { λ r. ⌜ r ≡ generationOf (handlesOf (now (self .entry))) number ⌝ }
     {
-        let i = self.find(number)?;
-        Some(self.rows[i].generation)
+        match self.get(number) {
+            Some(blob) => Some(blob.generation),
+            None => None,
+        }
     }
 
     /// Ends a handle.
@@ -111,12 +137,24 @@ impl Handles {
         ensures state { λ _. ⌜ handlesOf (now (self .exit)) ≡ closed (handlesOf (now (self .entry))) number ⌝ }
         ensures counted { λ _. ⌜ now (self .exit) .issued ≡ now (self .entry) .issued ⌝ }
     {
+        let fault = self.ask(number);
+        self.end(number);
+        match fault {
+            Some(fault) => Err(fault),
+            None => Ok(()),
+        }
+    }
+
+    /// Ends a handle if it is held.
+    fn end(&mut self, number: u64)
+        ensures state { λ _. ⌜ handlesOf (now (self .exit)) ≡ closed (handlesOf (now (self .entry))) number ⌝ }
+        ensures counted { λ _. ⌜ now (self .exit) .issued ≡ now (self .entry) .issued ⌝ }
+    {
         let Some(i) = self.find(number) else {
-            return Err(Fault::NoHandle);
+            return;
         };
         let count = self.count;
         retire(&mut self.rows[0..count], i);
         self.count = count - 1;
-        Ok(())
     }
 }

@@ -1,7 +1,7 @@
 ghost use mathlib.Core.Path.{_≡_};
 ghost use mathlib.Core.Bool.{cond};
 ghost use mathlib.Core.List.{[], _∷_, _++_, map};
-ghost use Prim.Native.Nat.{_+_, _≤_};
+ghost use Prim.Native.Nat.{_+_, _≤_, _<_};
 ghost use lib.Dec.{ltb};
 ghost use lib.ListN.{length, take, drop};
 ghost use Rattle.std.specs.declared.result.Result.the-variants.{Ok, Err};
@@ -26,12 +26,15 @@ impl Listing {
     pub fn insert(&mut self, name: Name)
         ensures { λ _. ⌜ namesOf (now (self .exit)) ≡ cond (ltb (length (namesOf (now (self .entry)))) 8) (placed (nameOf name) (namesOf (now (self .entry)))) (namesOf (now (self .entry))) ⌝ }
     {
-        let count = self.count;
-        if count < 8 {
-            let last = pass(&mut self.names[0..count], name);
-            self.names[count] = last;
-            self.count = count + 1;
+        if self.len() < 8 {
+            self.place(name);
         }
+    }
+
+    pub fn len(&self) -> usize
+        ensures { λ r. ⌜ r ≡ length (namesOf (now (self .entry))) ⌝ }
+    {
+        self.count
     }
 
     /// Writes each name after its length byte and gives how many bytes that took; a short area is refused as it is.
@@ -42,11 +45,29 @@ impl Listing {
         if area.len() < SCAN_AREA {
             return Err(Fault::ShortArea);
         }
+        Ok(self.fill(area))
+    }
+
+    fn place(&mut self, name: Name)
+        requires { ⌜ length (namesOf (now self)) < 8 ⌝ }
+        ensures { λ _. ⌜ namesOf (now (self .exit)) ≡ placed (nameOf name) (namesOf (now (self .entry))) ⌝ }
+    {
+        let count = self.count;
+        let last = pass(&mut self.names[0..count], name);
+        self.names[count] = last;
+        self.count = count + 1;
+    }
+
+    fn fill(&self, area: &mut [u8]) -> usize
+        requires { ⌜ scanArea ≤ length (now area) ⌝ }
+        ensures count { λ r. ⌜ r ≡ length (listing (namesOf (now (self .entry)))) ⌝ }
+        ensures put { λ _. ⌜ now (area .exit) ≡ first (listing (namesOf (now (self .entry)))) (now (area .entry)) ⌝ }
+    {
         let mut at = 0;
         for i in 0..self.count {
             at = put(area, at, &self.names[i]);
         }
-        Ok(at)
+        at
     }
 }
 

@@ -1,6 +1,7 @@
 ghost use mathlib.Core.Path.{_≡_};
 ghost use mathlib.Core.Bool.{cond};
 ghost use mathlib.Core.List.{[]};
+ghost use Prim.Native.Nat.{_≤_};
 ghost use lib.Dec.{leb};
 ghost use lib.ListN.{length};
 ghost use Rattle.std.specs.Options.{mapped};
@@ -23,14 +24,21 @@ impl Name {
     pub fn new(bytes: &[u8]) -> Option<Name>
         ensures { λ r. ⌜ mapped nameOf r ≡ cond (leb (length (now (bytes .entry))) nameLimit) (Some (now (bytes .entry))) None ⌝ }
     {
-        let len = bytes.len();
-        if len > NAME_LIMIT {
+        if bytes.len() > NAME_LIMIT {
             return None;
         }
+        Some(Name::copy(bytes))
+    }
+
+    fn copy(bytes: &[u8]) -> Name
+        requires { ⌜ length (now bytes) ≤ nameLimit ⌝ }
+        ensures { λ r. ⌜ nameOf r ≡ now (bytes .entry) ⌝ }
+    {
         let mut name = Name::empty();
+        let len = bytes.len();
         name.bytes[0..len].copy_from_slice(bytes);
         name.len = len;
-        Some(name)
+        name
     }
 
     pub fn as_slice(&self) -> &[u8]
@@ -43,13 +51,25 @@ impl Name {
     pub fn is(&self, bytes: &[u8]) -> bool
         ensures { λ r. ⌜ r ≡ sameBytes (nameOf (now (self .entry))) (now (bytes .entry)) ⌝ }
     {
-        self.as_slice() == bytes
+        same(self.as_slice(), bytes)
     }
 
     /// Whether the name comes before another in ascending byte order, a shorter prefix first.
     pub fn is_before(&self, other: &Name) -> bool
         ensures { λ r. ⌜ r ≡ before (nameOf (now (self .entry))) (nameOf (now (other .entry))) ⌝ }
     {
-        self.as_slice() < other.as_slice()
+        less(self.as_slice(), other.as_slice())
     }
+}
+
+fn same(a: &[u8], b: &[u8]) -> bool
+    ensures { λ r. ⌜ r ≡ sameBytes (now (a .entry)) (now (b .entry)) ⌝ }
+{
+    a == b
+}
+
+fn less(a: &[u8], b: &[u8]) -> bool
+    ensures { λ r. ⌜ r ≡ before (now (a .entry)) (now (b .entry)) ⌝ }
+{
+    a < b
 }

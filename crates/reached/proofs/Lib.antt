@@ -3,3 +3,4 @@ pub mod Keeps
 pub mod Steps
 pub mod Makes
 pub mod Runs
+pub mod Sorts

@@ -4,7 +4,6 @@ use mathlib.Core.Bool.{Bool, true, false, cond, not}
 use mathlib.Core.List.{List, [], _∷_, map}
 use Prim.Native.Nat.{ℕ, suc, _+_, _≤_, _<_}
 use native.Mathlib.Omega.{arith}
-use lib.Dec.{eqb, leb, ltb}
 use lib.ListN.{length}
 use Rattle.std.specs.shelf.Lists.{All, kept-by}
 use Rattle.std.specs.shelf.Text.{sameBytes}
@@ -16,33 +15,21 @@ use Rattle.std.specs.declared.result.Result.the-variants.{Ok, Err}
 use Rattle.std.proofs.shelf.Elements.{all-weaker, all-kept-by}
 use Rattle.std.proofs.shelf.Lists.{map-id}
 use Rattle.std.proofs.shelf.Tests.{eqb-true, not-true}
-use Rattle.std.proofs.shelf.Ways.{tells}
 use Rattle.fault.specs.declared.Fault.{Fault}
-use Rattle.fault.specs.declared.Fault.the-variants.{NoHandle, TooLong, NoSpace}
 use Rattle.content.specs.Bytes.{limit, written, cut}
 use Rattle.table.specs.Tables.{found, amended, without}
 use Rattle.store.specs.Meaning.{File, Handle, Volume, Disk, withFiles, withHandles, withVolume, whenSome, whenOk, refused, emptyDisk}
-use Rattle.store.specs.Live.{numbered, handleAt, writeLimit, writeFault, resizeFault, liveResized}
+use Rattle.store.specs.Live.{numbered, handleAt, writeFault, resizeFault, liveResized}
 use Rattle.store.specs.Durable.{generated, named, inPartition, removed, removedPartition, removeAnswer, removePartitionAnswer, partitionStands, durableWritten, durableReplaced}
+use Rattle.store.proofs.Faults.{write-fits, resize-fits}
 use Rattle.store.specs.Whole.{wrote, writtenLive, writtenDurable, resized, resizeAnswer, synced, closedDisk, restarted}
 use Rattle.reached.specs.Sound.{Distinct, Sized, nameOf, SoundFiles, SoundHandles, Agree, Sound}
 use Rattle.reached.proofs.Lists.{all-without, all-found, found-passes, distinct-without, distinct-kept, length-without, length-kept, all-kept, found-without, same-other}
 use Rattle.reached.proofs.Keeps.{files-changed, agree-changed, handles-changed, agree-turned, sized-written, sized-cut}
 
--- a write that meets no fault ends within the limit
-fits-write : (h : Handle) (offset len : ℕ) → None ≡ cond (ltb writeLimit len) (Some TooLong) (cond (leb (offset + len + h .header) limit) None (Some NoSpace)) → h .header + offset + len ≤ limit
-fits-write h offset len e = let end : offset + len + h .header ≤ limit = grind (arith, tells) in omega arith
-
-fits-resize : (h : Handle) (len : ℕ) → None ≡ cond (leb (len + h .header) limit) None (Some NoSpace) → h .header + len ≤ limit
-fits-resize h len e = let end : len + h .header ≤ limit = grind (arith, tells) in omega arith
-
--- what is met by a handle that is held
-at-held : {A : Type 0} (o : Option Handle) (h : Handle) (a : Handle → A) (b c : A) → o ≡ Some h → c ≡ whenSome o a b → c ≡ a h
-at-held o h a b c e k = k ∙ ap (λ x. whenSome x a b) e
-
 module _ (m : Disk) (s : Sound m) (n offset : ℕ) (bs : List ℕ) (none : None ≡ writeFault (m .handles) n offset (length bs)) where
   ends : (h : Handle) → handleAt (m .handles) n ≡ Some h → h .header + offset + length bs ≤ limit
-  ends h e = fits-write h offset (length bs) (at-held (handleAt (m .handles) n) h (λ x. cond (ltb writeLimit (length bs)) (Some TooLong) (cond (leb (offset + length bs + x .header) limit) None (Some NoSpace))) (Some NoHandle) None e none)
+  ends h e = omega (arith, write-fits (m .handles) n offset (length bs) h e (sym none))
 
   abbrev change : Handle → List ℕ
   change h = written (h .live) (h .header + offset) bs
@@ -92,7 +79,7 @@ resize-sound m n len s = go (resizeFault (m .handles) n len) refl
       let alter : Handle → List ℕ = λ h. cut (h .header + len) (h .live) in
       let keeps : (h : Handle) → found (numbered n) (m .handles) ≡ Some h → Sized (h .header) (h .live) → Sized (h .header) (alter h) =
         λ h at q. sized-cut (h .header) (h .header + len) (h .live) (omega arith)
-          (fits-resize h len (at-held (handleAt (m .handles) n) h (λ x. cond (leb (len + x .header) limit) None (Some NoSpace)) (Some NoHandle) None at (sym e))) q in
+          (omega (arith, resize-fits (m .handles) n len h at e)) q in
       record {
         files = s .files;
         handles = handles-changed (m .handles) (m .generations) (m .issued) n alter (s .handles) keeps;

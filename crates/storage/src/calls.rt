@@ -4,6 +4,8 @@ ghost use Prim.Native.Nat.{ℕ, _-_};
 ghost use lib.ListN.{length};
 ghost use Rattle.content.specs.Contents.{bytesOf};
 ghost use Rattle.store.specs.Meaning.{Disk, emptyDisk};
+ghost use Rattle.store.specs.Whole.{openFault, openAnswer, opened};
+ghost use Rattle.std.specs.declared.option.Option.the-variants.{None};
 ghost use Rattle.storage.specs.Disks.{diskOver};
 use super::state::Storage;
 use content::row::Content;
@@ -21,6 +23,22 @@ impl<M: Medium> Storage<M> {
     {
         medium.reset();
         Storage { medium, handles: Handles::new(), generations: 0 }
+    }
+
+    /// An open that meets none of the faults of its question.
+    fn place(&mut self, partition: &[u8], name: &[u8], header: &[u8]) -> Result<(u64, u64), Fault>
+        requires { ⌜ openFault (diskOver (M·Medium .volume (now self .medium)) (now self .handles) (now self .generations)) (now partition) (now name) (now header) ≡ None ⌝ }
+        ensures answer { λ r. ⌜ r ≡ openAnswer (diskOver (M·Medium .volume (now (self .entry) .medium)) (now (self .entry) .handles) (now (self .entry) .generations)) (now (partition .entry)) (now (name .entry)) (now (header .entry)) ⌝ }
+        ensures state { λ _. ⌜ diskOver (M·Medium .volume (now (self .exit) .medium)) (now (self .exit) .handles) (now (self .exit) .generations) ≡ opened (diskOver (M·Medium .volume (now (self .entry) .medium)) (now (self .entry) .handles) (now (self .entry) .generations)) (now (partition .entry)) (now (name .entry)) (now (header .entry)) ⌝ }
+    {
+        let stands = self.medium.stands(partition, name);
+        let mut live = Content::new();
+        let (generation, header) = self.medium.place(partition, name, header, self.generations, &mut live)?;
+        let number = self.handles.open(generation, header, &live)?;
+        if !stands {
+            self.generations += 1;
+        }
+        Ok((number, size(&live, header)))
     }
 }
 
@@ -78,14 +96,7 @@ pub impl<M: Medium> Store for Storage<M> as StorageStore {
         if let Some(fault) = self.ask_open(partition, name, header) {
             return Err(fault);
         }
-        let stands = self.medium.stands(partition, name);
-        let mut live = Content::new();
-        let (generation, header) = self.medium.place(partition, name, header, self.generations, &mut live)?;
-        let number = self.handles.open(generation, header, &live)?;
-        if !stands {
-            self.generations += 1;
-        }
-        Ok((number, size(&live, header)))
+        self.place(partition, name, header)
     }
 
     fn read(&self, handle: u64, offset: u64, area: &mut [u8]) -> Result<(), Fault> {
@@ -93,9 +104,10 @@ pub impl<M: Medium> Store for Storage<M> as StorageStore {
     }
 
     fn write(&mut self, handle: u64, offset: u64, bytes: &[u8], sync: bool) -> Result<(), Fault> {
-        let Some((generation, header)) = self.handles.target(handle) else {
+        let Some(blob) = self.handles.get(handle) else {
             return Err(Fault::NoHandle);
         };
+        let (generation, header) = (blob.generation, blob.header);
         self.handles.write(handle, offset, bytes)?;
         if sync {
             self.medium.write(generation, header + offset as usize, bytes)
@@ -109,13 +121,10 @@ pub impl<M: Medium> Store for Storage<M> as StorageStore {
     }
 
     fn sync(&mut self, handle: u64) -> Result<(), Fault> {
-        let Some((generation, _)) = self.handles.target(handle) else {
-            return Err(Fault::NoHandle);
-        };
-        let Some(live) = self.handles.live(handle) else {
-            return Err(Fault::NoHandle);
-        };
-        self.medium.replace(generation, live)
+        match self.handles.get(handle) {
+            Some(blob) => self.medium.replace(blob.generation, &blob.live),
+            None => Err(Fault::NoHandle),
+        }
     }
 
     fn close(&mut self, handle: u64) -> Result<(), Fault> {

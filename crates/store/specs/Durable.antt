@@ -62,10 +62,11 @@ crowded v p n =
     (not (partitionStands v p) && leb partitionLimit (length (v .partitions)))
     || (not (fileStands v p n) && leb fileLimit (length (v .files)))
 
--- an open of a name with a header
+-- a partition, a name or a header that is too long
 abbrev pub openTooLong : List ℕ → List ℕ → List ℕ → Bool
 openTooLong p n header = nameTooLong p || (nameTooLong n || ltb headerLimit (length header))
 
+-- what the durable half of an open meets: TooLong, then TableFull
 abbrev pub placeFault : Volume → List ℕ → List ℕ → List ℕ → Option Fault
 placeFault v p n header = cond (openTooLong p n header) (Some TooLong) (cond (crowded v p n) (Some TableFull) None)
 
@@ -83,20 +84,21 @@ openedVolume v p n header g = record {
       files = cond (fileStands v p n) (v .files) (v .files ++ (newFile p n header g ∷ []));
     }
 
--- what the durable half of an open answers: the file's generation and header length
+-- what the durable half of an open answers: BadPartition, or the file's generation and header length
 abbrev pub placeAnswer : Volume → List ℕ → List ℕ → List ℕ → ℕ → Result (ℕ × ℕ) Fault
 placeAnswer v p n header g =
     refused (placeFault v p n header)
       (cond (isPartition p) (Ok (openedFile v p n header g .generation, openedFile v p n header g .header)) (Err BadPartition))
 
--- what a call that names a partition meets, and then what it is about
+-- BadPartition, then PartitionMissing, and else this answer
 abbrev pub inStanding : {A : Type 0} → Volume → List ℕ → Result A Fault → Result A Fault
 inStanding v p r = cond (isPartition p) (cond (partitionStands v p) r (Err PartitionMissing)) (Err BadPartition)
 
+-- after these BlobMissing, and else what is made of the file
 abbrev pub ofFile : {A : Type 0} → Volume → List ℕ → List ℕ → (File → A) → Result A Fault
 ofFile v p n a = inStanding v p (whenSome (fileAt v p n) (λ f. Ok (a f)) (Err BlobMissing))
 
--- a removal of a file; its partition stays
+-- a removal of a file, whose partition stays: TooLong first
 abbrev pub removeFault : List ℕ → List ℕ → Option Fault
 removeFault p n = cond (nameTooLong p || nameTooLong n) (Some TooLong) None
 
@@ -106,7 +108,7 @@ removeAnswer v p n = refused (removeFault p n) (ofFile v p n (λ f. tt))
 abbrev pub removed : Volume → List ℕ → List ℕ → Volume
 removed v p n = whenOk (removeAnswer v p n) (withFiles v (without (named p n) (v .files))) v
 
--- a removal of a partition with its files
+-- a removal of a partition with its files: TooLong first
 abbrev pub removePartitionFault : List ℕ → Option Fault
 removePartitionFault p = cond (nameTooLong p) (Some TooLong) None
 
@@ -124,7 +126,7 @@ generationAt v p n = mapped (λ f. f .generation) (fileAt v p n)
 abbrev pub generationsIn : Volume → List ℕ → List ℕ
 generationsIn v p = map (λ f. f .generation) (kept-by (inPartition p) (v .files))
 
--- a scan lists the names of a partition's files in ascending order
+-- a scan lists the names of a partition's files in ascending order: TooLong first, then ShortArea
 abbrev pub scanFault : List ℕ → ℕ → Option Fault
 scanFault p area = cond (nameTooLong p) (Some TooLong) (cond (ltb area scanArea) (Some ShortArea) None)
 
@@ -137,7 +139,7 @@ scanAnswer v p area = refused (scanFault p area) (inStanding v p (Ok (length (sc
 abbrev pub scanLeaves : Volume → List ℕ → List ℕ → List ℕ
 scanLeaves v p area = whenOk (scanAnswer v p (length area)) (first (scanned v p) area) area
 
--- a look gives a file's durable bytes, header included
+-- a look gives a file's durable bytes, header included: TooLong first, then ShortArea, since its area must hold any file
 abbrev pub lookFault : List ℕ → List ℕ → ℕ → Option Fault
 lookFault p n area = cond (nameTooLong p || nameTooLong n) (Some TooLong) (cond (ltb area limit) (Some ShortArea) None)
 
@@ -150,7 +152,7 @@ looked v p n = whenSome (fileAt v p n) (λ f. f .durable) []
 abbrev pub lookLeaves : Volume → List ℕ → List ℕ → List ℕ → List ℕ
 lookLeaves v p n area = whenOk (lookAnswer v p n (length area)) (first (looked v p n) area) area
 
--- whether a file has a generation
+-- BlobMissing if no file has the generation
 abbrev pub keepAnswer : Volume → ℕ → Done
 keepAnswer v g = whenSome (fileOf v g) (λ f. Ok tt) (Err BlobMissing)
 

@@ -44,28 +44,30 @@ handlesWith hs number generation header live = hs ++ (record { number = number; 
 abbrev pub generationOf : List Handle → ℕ → Option ℕ
 generationOf hs n = mapped (λ h. h .generation) (handleAt hs n)
 
--- a call on a handle that is not held
+-- NoHandle for a handle that is not held
 abbrev pub heldFault : List Handle → ℕ → Option Fault
 heldFault hs n = whenSome (handleAt hs n) (λ h. None) (Some NoHandle)
 
--- a write of a length at an offset
+-- what a write of a length at an offset meets: NoHandle, then TooLong, then NoSpace
 abbrev pub writeFault : List Handle → ℕ → ℕ → ℕ → Option Fault
 writeFault hs n offset len =
     whenSome (handleAt hs n)
       (λ h. cond (ltb writeLimit len) (Some TooLong) (cond (leb (offset + len + h .header) limit) None (Some NoSpace)))
       (Some NoHandle)
 
--- a resize to a length
+-- what a resize to a length meets: NoHandle, then NoSpace
 abbrev pub resizeFault : List Handle → ℕ → ℕ → Option Fault
 resizeFault hs n len = whenSome (handleAt hs n) (λ h. cond (leb (len + h .header) limit) None (Some NoSpace)) (Some NoHandle)
 
--- a read of a length at an offset: refused where its end, header counted, passes 2^64 - 1, and then where it passes the live bytes
+-- a read of a length at an offset: ReadOverflow where its end, header counted, passes 2^64 - 1, then InsufficientLength
+-- where it passes the live bytes
 abbrev pub readOf : Handle → ℕ → ℕ → Done
 readOf h offset len =
     cond (ltb (offset + len + h .header) (2 ^ 64))
       (cond (leb (offset + len + h .header) (length (h .live))) (Ok tt) (Err InsufficientLength))
       (Err ReadOverflow)
 
+-- NoHandle comes first
 abbrev pub readAnswer : List Handle → ℕ → ℕ → ℕ → Done
 readAnswer hs n offset len = whenSome (handleAt hs n) (λ h. readOf h offset len) (Err NoHandle)
 

@@ -7,7 +7,8 @@ use Rattle.std.specs.declared.result.Result.{Result}
 use Rattle.std.specs.declared.result.Result.the-variants.{Ok, Err}
 use Rattle.fault.specs.declared.Fault.{Fault}
 
--- A file: its durable bytes begin with a header, whose length is fixed when the file is made.
+-- A file: its durable bytes begin with a header, whose length `header` is fixed when the file is made. Its generation
+-- tells it from every other file ever made: a file made again under the same name has another one.
 pub record File : Type 0 where
   pub partition : List ℕ
   pub name : List ℕ
@@ -15,21 +16,23 @@ pub record File : Type 0 where
   pub header : ℕ
   pub durable : List ℕ
 
--- An open handle: its live bytes are its own copy, header included.
+-- An open handle: its live bytes are its own copy, header included. It keeps the generation and the header length of the
+-- file that it was opened on.
 pub record Handle : Type 0 where
   pub number : ℕ
   pub generation : ℕ
   pub header : ℕ
   pub live : List ℕ
 
--- What a restart leaves: partitions and files, each in the order of their making.
+-- What a restart leaves: partitions and files, each in the order of their making. No call shows that order; it makes the
+-- meaning the same whichever place an implementation gives a file.
 pub record Volume : Type 0 where
   pub partitions : List (List ℕ)
   pub files : List File
 
 -- A store: a volume, the handles held in the order of their opening, and how many generations and handles were issued.
--- Both counts begin at 0 and never repeat: the next file made has the generation `generations`, the next handle the
--- number `issued`.
+-- Both counts begin at 0, and no number is issued twice: the next file made has the generation `generations`, the next
+-- handle the number `issued`.
 pub record Disk : Type 0 where
   pub volume : Volume
   pub handles : List Handle
@@ -73,5 +76,6 @@ abbrev pub whenOk : {A B : Type 0} → Result A Fault → B → B → B
 whenOk (Ok a) new old = new
 whenOk (Err f) new old = old
 
+-- the answer of a call that gives no number
 abbrev pub Done : Type 0
 Done = Result (Unit {0}) Fault

@@ -14,7 +14,7 @@ use Rattle.store.specs.Meaning.{File, Handle, Volume, Disk, withHandles, withV
 use Rattle.store.specs.Live.{handleAt, handlesFull, handlesWith, heldFault, writeFault, resizeFault, liveWritten, liveResized, closed}
 use Rattle.store.specs.Durable.{openTooLong, crowded, openedFile, openedVolume, fileStands, keepAnswer, durableWritten, durableReplaced, removed, removedPartition}
 
--- an open meets a name or header that is too long, and then a table that is full
+-- what an open meets: TooLong, then TableFull
 abbrev pub openFault : Disk → List ℕ → List ℕ → List ℕ → Option Fault
 openFault m p n header =
     cond (openTooLong p n header) (Some TooLong)
@@ -43,10 +43,11 @@ opened m p n header =
       })
       m
 
--- a write, plain or SYNC: a SYNC write misses the file if none has the handle's generation
+-- a call that makes bytes durable gives BlobMissing if no file has the handle's generation
 abbrev pub syncOf : Disk → ℕ → Done
 syncOf m n = whenSome (handleAt (m .handles) n) (λ h. keepAnswer (m .volume) (h .generation)) (Err NoHandle)
 
+-- a write is plain, or SYNC: then its bytes become durable at once
 abbrev pub writeAnswer : Disk → ℕ → ℕ → List ℕ → Bool → Done
 writeAnswer m n offset bs sync = refused (writeFault (m .handles) n offset (length bs)) (cond sync (syncOf m n) (Ok tt))
 

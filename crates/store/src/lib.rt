@@ -20,7 +20,8 @@ pub mod limits;
 pub mod medium;
 
 /// A store by its meaning: each call's answer, the bytes of its area and the meaning after it are given by a definition.
-/// Nothing is demanded of a caller: what a store cannot do it refuses, and a refusal alters nothing.
+/// Nothing is demanded of a caller: what a store cannot do it refuses, and a refusal alters nothing, with one exception: a
+/// SYNC write whose file is missing keeps its live change. Calls on `&self` leave the meaning as it was.
 pub trait Store {
     ghost meaning: { Self → Disk };
 
@@ -28,7 +29,8 @@ pub trait Store {
     fn reset(&mut self)
         ensures { λ _. ⌜ meaning (now (self .exit)) ≡ emptyDisk ⌝ };
 
-    /// Which fault an open would meet before anything else.
+    /// Which fault an open would meet before anything else; like every question it tells none of the faults about a
+    /// partition's name, a missing partition or a missing file.
     fn ask_open(&self, partition: &[u8], name: &[u8], header: &[u8]) -> Option<Fault>
         ensures { λ r. ⌜ r ≡ openFault (meaning (now (self .entry))) (now (partition .entry)) (now (name .entry)) (now (header .entry)) ⌝ };
 
@@ -72,7 +74,7 @@ pub trait Store {
         look_fault(partition, name, area)
     }
 
-    /// The generation of a handle's file.
+    /// The generation of the file that a handle was opened on, which may be gone.
     fn generation(&self, handle: u64) -> Option<u64>
         ensures { λ r. ⌜ r ≡ generationOf (meaning (now (self .entry)) .handles) handle ⌝ };
 
@@ -84,7 +86,8 @@ pub trait Store {
     fn generations_in(&self, partition: &[u8]) -> Generations
         ensures { λ r. ⌜ taken r ≡ generationsIn (meaning (now (self .entry)) .volume) (now (partition .entry)) ⌝ };
 
-    /// Opens a file, which it makes with this header if there is none; gives the handle's number and the file's size.
+    /// Opens a file; makes the partition if it is missing, and the file, with this header, if it is missing. Gives the
+    /// handle's number and the file's size.
     fn open(&mut self, partition: &[u8], name: &[u8], header: &[u8]) -> Result<(u64, u64), Fault>
         ensures answer { λ r. ⌜ r ≡ openAnswer (meaning (now (self .entry))) (now (partition .entry)) (now (name .entry)) (now (header .entry)) ⌝ }
         ensures state { λ _. ⌜ meaning (now (self .exit)) ≡ opened (meaning (now (self .entry))) (now (partition .entry)) (now (name .entry)) (now (header .entry)) ⌝ };
@@ -94,7 +97,7 @@ pub trait Store {
         ensures answer { λ r. ⌜ r ≡ readAnswer (meaning (now (self .entry)) .handles) handle offset (length (now (area .entry))) ⌝ }
         ensures put { λ _. ⌜ now (area .exit) ≡ readArea (meaning (now (self .entry)) .handles) handle offset (now (area .entry)) ⌝ };
 
-    /// Writes live bytes, and with `sync` the same durable bytes.
+    /// Writes live bytes, and with `sync` the same durable bytes; where the file is missing the live change remains.
     fn write(&mut self, handle: u64, offset: u64, bytes: &[u8], sync: bool) -> Result<(), Fault>
         ensures answer { λ r. ⌜ r ≡ writeAnswer (meaning (now (self .entry))) handle offset (now (bytes .entry)) sync ⌝ }
         ensures state { λ _. ⌜ meaning (now (self .exit)) ≡ wrote (meaning (now (self .entry))) handle offset (now (bytes .entry)) sync ⌝ };
@@ -135,11 +138,12 @@ pub trait Store {
         ensures answer { λ r. ⌜ r ≡ lookAnswer (meaning (now (self .entry)) .volume) (now (partition .entry)) (now (name .entry)) (length (now (area .entry))) ⌝ }
         ensures put { λ _. ⌜ now (area .exit) ≡ lookLeaves (meaning (now (self .entry)) .volume) (now (partition .entry)) (now (name .entry)) (now (area .entry)) ⌝ };
 
-    /// Stores the chosen ones of some bytes in the durable bytes of a generation's file, if any.
+    /// Stores the chosen ones of some bytes in the durable bytes of a generation's file, if any; where they end past the
+    /// limit nothing changes.
     fn crash_write(&mut self, generation: u64, offset: u64, bytes: &[u8], chosen: &[bool])
         ensures { λ _. ⌜ meaning (now (self .exit)) ≡ withVolume (meaning (now (self .entry))) (crashWritten (meaning (now (self .entry)) .volume) generation offset (patch (now (bytes .entry)) (now (chosen .entry)))) ⌝ };
 
-    /// Cuts or zero-fills the durable bytes of a generation's file, if any.
+    /// Cuts or zero-fills the durable bytes of a generation's file, if any; past the limit nothing changes.
     fn crash_resize(&mut self, generation: u64, len: u64)
         ensures { λ _. ⌜ meaning (now (self .exit)) ≡ withVolume (meaning (now (self .entry))) (crashResized (meaning (now (self .entry)) .volume) generation len) ⌝ };
 

@@ -45,23 +45,19 @@ pub fn remove_partition_fault(partition: &[u8]) -> Option<Fault>
 pub fn scan_fault(partition: &[u8], area: usize) -> Option<Fault>
     ensures { λ r. ⌜ r ≡ scanFault (now (partition .entry)) area ⌝ }
 {
-    if name_too_long(partition) {
-        return Some(Fault::TooLong);
-    }
-    if area < SCAN_AREA {
+    let fault = remove_partition_fault(partition);
+    if fault.is_none() && area < SCAN_AREA {
         return Some(Fault::ShortArea);
     }
-    None
+    fault
 }
 
 pub fn look_fault(partition: &[u8], name: &[u8], area: usize) -> Option<Fault>
     ensures { λ r. ⌜ r ≡ lookFault (now (partition .entry)) (now (name .entry)) area ⌝ }
 {
-    if name_too_long(partition) || name_too_long(name) {
-        return Some(Fault::TooLong);
-    }
-    if area < LIMIT {
+    let fault = remove_fault(partition, name);
+    if fault.is_none() && area < LIMIT {
         return Some(Fault::ShortArea);
     }
-    None
+    fault
 }

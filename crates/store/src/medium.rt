@@ -38,7 +38,8 @@ pub trait Medium {
         ensures state { λ r. ⌜ volume (now (self .exit)) ≡ whenOk r (openedVolume (volume (now (self .entry))) (now (partition .entry)) (now (name .entry)) (now (header .entry)) generation) (volume (now (self .entry))) ⌝ }
         ensures copied { λ r. ⌜ bytesOf (now (live .exit)) ≡ whenOk r (openedFile (volume (now (self .entry))) (now (partition .entry)) (now (name .entry)) (now (header .entry)) generation .durable) (bytesOf (now (live .entry))) ⌝ };
 
-    /// Writes durable bytes of a generation's file from a place on; past the limit nothing changes.
+    /// Writes durable bytes of a generation's file from a place on. Past the limit the answer is the same and nothing
+    /// changes; no store asks for that.
     fn write(&mut self, generation: u64, at: usize, bytes: &[u8]) -> Result<(), Fault>
         ensures answer { λ r. ⌜ r ≡ keepAnswer (volume (now (self .entry))) generation ⌝ }
         ensures state { λ _. ⌜ volume (now (self .exit)) ≡ keptWithin (volume (now (self .entry))) generation at (now (bytes .entry)) ⌝ };
