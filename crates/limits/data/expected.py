@@ -273,6 +273,11 @@ NAMES = [
     ("scan", b"", 135),
     ("scan", b"", 136),
     ("scan", b"a b", 136),
+    ("look", P16, b"a", 1016),
+    ("remove", P16, b"a"),
+    ("remove_partition", P16),
+    ("remove", b"-09AZ_az", N16),
+    ("scan", b"-09AZ_az", 136),
 ]
 
 ORDER = [
@@ -670,11 +675,14 @@ RESTARTS = [
     ("read", 2, 0, 1),
     ("crash_write", 2, 0, b"D", "1"),
     ("look", b"p", b"c", 1016),
+    ("open", b"p", b"d", b""),
+    ("crash_write", 3, 0, b"G", "1"),
+    ("look", b"p", b"d", 1016),
     ("restart",),
     ("restart",),
     ("open", b"p", b"c", b""),
     ("reset",),
-    ("read", 4, 0, 0),
+    ("read", 5, 0, 0),
     ("scan", b"p", 136),
     ("look", b"p", b"a", 1016),
     ("crash_write", 0, 0, b"E", "1"),

@@ -49,6 +49,11 @@ pub fn names() -> &'static [Step<'static>] {
         Step::Scan(b"", 135),
         Step::Scan(b"", 136),
         Step::Scan(b"a b", 136),
+        Step::Look(P16, b"a", 1016),
+        Step::Remove(P16, b"a"),
+        Step::RemovePartition(P16),
+        Step::Remove(b"-09AZ_az", N16),
+        Step::Scan(b"-09AZ_az", 136),
     ];
     CALLS
 }
@@ -498,11 +503,14 @@ pub fn restarts() -> &'static [Step<'static>] {
         Step::Read(2, 0, 1),
         Step::CrashWrite(2, 0, b"D", &[true]),
         Step::Look(b"p", b"c", 1016),
+        Step::Open(b"p", b"d", b""),
+        Step::CrashWrite(3, 0, b"G", &[true]),
+        Step::Look(b"p", b"d", 1016),
         Step::Restart,
         Step::Restart,
         Step::Open(b"p", b"c", b""),
         Step::Reset,
-        Step::Read(4, 0, 0),
+        Step::Read(5, 0, 0),
         Step::Scan(b"p", 136),
         Step::Look(b"p", b"a", 1016),
         Step::CrashWrite(0, 0, b"E", &[true]),
