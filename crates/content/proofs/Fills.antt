@@ -30,12 +30,12 @@ module _ (xs : List ℕ) (len : ℕ) (h : len ≤ length xs) where
   cut-is to f = same-lists _ _ (search (needs, places)) (λ k d h. grind (arith, places))
 
   pub written-is : (ys : List ℕ) (at : ℕ) → at + length ys ≤ length xs
-    → take (max len (at + length ys)) (take at (zeroed xs len at) ++ (ys ++ drop (at + length ys) (zeroed xs len at))) ≡ written (take len xs) at ys
+      → take (max len (at + length ys)) (take at (zeroed xs len at) ++ (ys ++ drop (at + length ys) (zeroed xs len at))) ≡ written (take len xs) at ys
   unfolding zeroed written
   written-is ys at f = same-lists _ _ (search (needs, places)) (λ k d h. grind (arith, places))
 
   pub written-row : (ys : List ℕ) (at : ℕ) → at + length ys ≤ length xs → (zs ws : List ℕ) (m : ℕ) → zs ≡ zeroed xs len at → ws ≡ ys → m ≡ max len (at + length ys)
-    → take m (putMid at (at + length ys - at) zs ws) ≡ written (take len xs) at ys
+      → take m (putMid at (at + length ys - at) zs ws) ≡ written (take len xs) at ys
   written-row ys at f zs ws m a b e =
       let n : at + length ys - at ≡ length ys = omega arith in
       let mid : drop (length ys) (drop at (zeroed xs len at)) ≡ drop (at + length ys) (zeroed xs len at) = drop-drop (length ys) at (zeroed xs len at) in

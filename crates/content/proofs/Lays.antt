@@ -44,12 +44,12 @@ module _ (xs : List ℕ) (at : ℕ) (bs : List ℕ) (fs : List Bool) where
   one-more j h =
       let long : j < length (patch bs fs) = omega (arith, length-patch bs fs) in
       let first : drop j (patch bs fs) ≡ cond (getD fs j false) (Some (getD bs j 0)) None ∷ drop (suc j) (patch bs fs) =
-        drop-more (patch bs fs) j None long ∙ (rw (add-one, patch-at bs fs j None h) refl) in
+      drop-more (patch bs fs) j None long ∙ (rw (add-one, patch-at bs fs j None h) refl) in
       let next : suc (at + j) ≡ at + suc j = omega arith in
       ap (lay xs (at + j)) first ∙ lay-flag xs (at + j) (getD fs j false) (getD bs j 0) (drop (suc j) (patch bs fs)) ∙ rw next refl
 
   pub lay-more : (i : ℕ) → 0 < i → i ≤ length bs
-    → laidFrom xs at bs fs (i - 1) ≡ cond (getD fs (i - 1) false) (written (laidFrom xs at bs fs i) (at + (i - 1)) (getD bs (i - 1) 0 ∷ [])) (laidFrom xs at bs fs i)
+      → laidFrom xs at bs fs (i - 1) ≡ cond (getD fs (i - 1) false) (written (laidFrom xs at bs fs i) (at + (i - 1)) (getD bs (i - 1) 0 ∷ [])) (laidFrom xs at bs fs i)
   lay-more i z h =
       let e : suc (i - 1) ≡ i = omega arith in
       rw e at (one-more (i - 1) (omega arith))
@@ -65,7 +65,7 @@ module _ (xs : List ℕ) (at : ℕ) (bs : List ℕ) (fs : List Bool) where
 
   -- a turn that stores the byte before place i
   pub lay-byte : (i : ℕ) → 0 < i → i ≤ length bs → getD fs (i - 1) false ≡ true → (zs : List ℕ) → zs ≡ laidFrom xs at bs fs i
-    → written zs (at + (i - 1)) (take (i - 1 + 1 - (i - 1)) (drop (i - 1) bs)) ≡ laidFrom xs at bs fs (i - 1)
+      → written zs (at + (i - 1)) (take (i - 1 + 1 - (i - 1)) (drop (i - 1) bs)) ≡ laidFrom xs at bs fs (i - 1)
   lay-byte i z h chosen zs e =
       let one = one-byte bs (i - 1) (omega arith) in
       rw (one, e) refl ∙ sym (lay-more i z h ∙ cond-true _ _ _ chosen)

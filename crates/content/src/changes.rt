@@ -7,13 +7,17 @@ ghost use lib.ListN.{length, take, getD};
 ghost use Rattle.content.specs.Bytes.{limit, written, cut, within, zeroed};
 ghost use Rattle.content.specs.Patches.{patch, lay};
 ghost use Rattle.content.specs.Contents.{bytesOf};
-use super::row::{Content, LIMIT};
+use super::row::Content;
+use super::row::LIMIT;
 
 impl Content {
     pub fn new() -> Self
         ensures { λ r. ⌜ bytesOf r ≡ [] ⌝ }
     {
-        Content { bytes: [0; 1016], len: 0 }
+        Content {
+            bytes: [0; 1016],
+            len: 0,
+        }
     }
 
     pub fn as_slice(&self) -> &[u8]

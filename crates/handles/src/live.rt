@@ -10,8 +10,10 @@ ghost use Rattle.store.specs.Meaning.{refused, whenOk, withLive};
 ghost use Rattle.store.specs.Live.{writeFault, resizeFault, readAnswer, readArea, liveWritten, liveResized};
 ghost use Rattle.handles.specs.Opened.{handleOf, handlesOf};
 ghost use Rattle.handles.specs.declared.rows.Blob.{Blob as Row};
-use super::limits::{resize_fault, write_fault};
-use super::rows::{Blob, Handles};
+use super::limits::resize_fault;
+use super::limits::write_fault;
+use super::rows::Blob;
+use super::rows::Handles;
 use fault::Fault;
 
 impl Handles {

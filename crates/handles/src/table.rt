@@ -13,8 +13,10 @@ ghost use Rattle.table.specs.Tables.{position};
 ghost use Rattle.store.specs.Meaning.{refused, whenOk};
 ghost use Rattle.store.specs.Live.{numbered, handleAt, handlesFull, handlesWith, generationOf, heldFault, closed};
 ghost use Rattle.handles.specs.Opened.{handleOf, handlesOf};
-use super::limits::{HANDLE_LIMIT, ISSUE_LIMIT};
-use super::rows::{Blob, Handles};
+use super::limits::HANDLE_LIMIT;
+use super::limits::ISSUE_LIMIT;
+use super::rows::Blob;
+use super::rows::Handles;
 use content::row::Content;
 use fault::Fault;
 use table::retire;
@@ -24,8 +26,17 @@ impl Handles {
     pub fn new() -> Self
         ensures { λ r. ⌜ handlesOf r ≡ [] ⌝ ∗ ⌜ r .issued ≡ 0 ⌝ }
     {
-        let blank = Blob { number: 0, generation: 0, header: 0, live: Content::new() };
-        Handles { rows: [blank; 8], count: 0, issued: 0 }
+        let blank = Blob {
+            number: 0,
+            generation: 0,
+            header: 0,
+            live: Content::new(),
+        };
+        Handles {
+            rows: [blank; 8],
+            count: 0,
+            issued: 0,
+        }
     }
 
     /// Ends all handles, and begins their numbers again.
@@ -106,7 +117,12 @@ impl Handles {
     {
         let number = self.issued;
         let count = self.count;
-        self.rows[count] = Blob { number, generation, header, live: *live };
+        self.rows[count] = Blob {
+            number,
+            generation,
+            header,
+            live: *live,
+        };
         self.count = count + 1;
         self.issued = number + 1;
     }

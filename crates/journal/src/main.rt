@@ -9,7 +9,9 @@ use storage::state::Storage;
 use store::Store;
 
 const PARTITION: &[u8] = b"boot";
+
 const NAME: &[u8] = b"journal";
+
 const HEADER: &[u8] = b"BJ";
 
 /// Bytes in hexadecimal, `-` for none.
@@ -64,7 +66,13 @@ fn print_file<S: Store>(rt: &LibcRuntime, store: &S) -> io::Result<()> {
 }
 
 /// The live bytes of a handle from an offset on.
-fn print_read<S: Store>(rt: &LibcRuntime, store: &S, handle: u64, offset: u64, area: &mut [u8]) -> io::Result<()> {
+fn print_read<S: Store>(
+    rt: &LibcRuntime,
+    store: &S,
+    handle: u64,
+    offset: u64,
+    area: &mut [u8],
+) -> io::Result<()> {
     let told = Told(store.read(handle, offset, area));
     let bytes = Hex(area);
     println!(rt, "read at {offset}: {told}, area {bytes}")

@@ -23,15 +23,15 @@ pub first-more : (bs e area was new : List ℕ) (at : ℕ) → at ≡ length bs 
 first-more bs e area was new at n w h =
     let t : take at was ≡ bs = ap (take at) w ∙ take-at bs (drop (length bs) area) at (sym n) in
     let d : drop (at + length e) was ≡ drop (at + length e) area =
-      ap (drop (at + length e)) w ∙ drop-append-drop (length bs) area bs (at + length e) (omega arith) refl in
+    ap (drop (at + length e)) w ∙ drop-append-drop (length bs) area bs (at + length e) (omega arith) refl in
     let l : length (bs ++ e) ≡ at + length e = length-append bs e ∙ ap (λ k. k + length e) (sym n) in
     h ∙ rw (t, d, l) (sym (append-assoc bs e (drop (at + length e) area)))
 
 -- a byte and then a stretch behind it
 pub byte-then : (area ys n : List ℕ) (b at from end : ℕ) → from ≡ at + 1 → end ≡ from + length n → end ≤ length area → ys ≡ n
-  → putMid from (end - from) (set area at b) ys ≡ take at area ++ ((b ∷ n) ++ drop end area)
+    → putMid from (end - from) (set area at b) ys ≡ take at area ++ ((b ∷ n) ++ drop end area)
 byte-then area ys n b at from end f e h s =
     let t : take from (set area at b) ≡ take at area ++ (b ∷ []) = ap (λ k. take k (set area at b)) f ∙ take-more-set area at b (omega arith) in
     let d : drop (end - from) (drop from (set area at b)) ≡ drop end area =
-      drop-drop (end - from) from (set area at b) ∙ ap (λ k. drop k (set area at b)) (omega arith) ∙ drop-set-lt end area at b (omega arith) in
+    drop-drop (end - from) from (set area at b) ∙ ap (λ k. drop k (set area at b)) (omega arith) ∙ drop-set-lt end area at b (omega arith) in
     rw (t, d, s) (append-assoc (take at area) (b ∷ []) (n ++ drop end area))

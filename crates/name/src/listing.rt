@@ -19,7 +19,10 @@ impl Listing {
     pub fn new() -> Self
         ensures { λ r. ⌜ namesOf r ≡ [] ⌝ }
     {
-        Listing { names: [Name::empty(); 8], count: 0 }
+        Listing {
+            names: [Name::empty(); 8],
+            count: 0,
+        }
     }
 
     /// One more name, in its place; a ninth changes nothing.

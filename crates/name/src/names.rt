@@ -17,7 +17,10 @@ impl Name {
     pub fn empty() -> Self
         ensures { λ r. ⌜ nameOf r ≡ [] ⌝ }
     {
-        Name { bytes: [0; 16], len: 0 }
+        Name {
+            bytes: [0; 16],
+            len: 0,
+        }
     }
 
     /// A name of these bytes, if they are at most 16.

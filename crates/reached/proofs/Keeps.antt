@@ -23,7 +23,7 @@ use Rattle.reached.proofs.Lists.{all-amended, all-without, all-found, found-pa
 
 -- other durable bytes for the file of a generation
 module _ (v : Volume) (gens g : ℕ) (change : File → List ℕ) (s : SoundFiles v gens)
-  (keeps : (f : File) → found (generated g) (v .files) ≡ Some f → Sized (f .header) (f .durable) → Sized (f .header) (change f)) where
+    (keeps : (f : File) → found (generated g) (v .files) ≡ Some f → Sized (f .header) (f .durable) → Sized (f .header) (change f)) where
   abbrev changed : File → File
   changed f = withDurable f (change f)
 
@@ -32,35 +32,35 @@ module _ (v : Volume) (gens g : ℕ) (change : File → List ℕ) (s : SoundFile
 
   pub files-changed : SoundFiles (withFiles v changes) gens
   files-changed = record {
-      few-partitions = s .few-partitions;
-      few-files = omega (arith, s .few-files, length-amended (generated g) changed (v .files));
-      partitions-valid = s .partitions-valid;
-      partitions-distinct = s .partitions-distinct;
-      files-placed = all-amended _ (generated g) changed (v .files) (λ x e q. q) (s .files-placed);
-      names-short = all-amended _ (generated g) changed (v .files) (λ x e q. q) (s .names-short);
-      names-distinct = subst Distinct (sym (keys-amended nameOf (generated g) changed (λ x. refl) (v .files))) (s .names-distinct);
-      generations-issued = all-amended _ (generated g) changed (v .files) (λ x e q. q) (s .generations-issued);
-      generations-distinct = subst Distinct (sym (keys-amended (λ (f : File). f .generation) (generated g) changed (λ x. refl) (v .files))) (s .generations-distinct);
-      files-sized = all-amended _ (generated g) changed (v .files) keeps (s .files-sized);
-    }
+    few-partitions = s .few-partitions;
+    few-files = omega (arith, s .few-files, length-amended (generated g) changed (v .files));
+    partitions-valid = s .partitions-valid;
+    partitions-distinct = s .partitions-distinct;
+    files-placed = all-amended _ (generated g) changed (v .files) (λ x e q. q) (s .files-placed);
+    names-short = all-amended _ (generated g) changed (v .files) (λ x e q. q) (s .names-short);
+    names-distinct = subst Distinct (sym (keys-amended nameOf (generated g) changed (λ x. refl) (v .files))) (s .names-distinct);
+    generations-issued = all-amended _ (generated g) changed (v .files) (λ x e q. q) (s .generations-issued);
+    generations-distinct = subst Distinct (sym (keys-amended (λ (f : File). f .generation) (generated g) changed (λ x. refl) (v .files))) (s .generations-distinct);
+    files-sized = all-amended _ (generated g) changed (v .files) keeps (s .files-sized);
+  }
 
   pub agree-changed : (hs : List Handle) → Agree hs (v .files) → Agree hs changes
   agree-changed hs a = all-weaker _ _ (λ h. all-amended _ (generated g) changed (v .files) (λ x e q. q)) hs a
 
 -- other live bytes for the handle of a number
 module _ (hs : List Handle) (gens issued n : ℕ) (change : Handle → List ℕ) (s : SoundHandles hs gens issued)
-  (keeps : (h : Handle) → found (numbered n) hs ≡ Some h → Sized (h .header) (h .live) → Sized (h .header) (change h)) where
+    (keeps : (h : Handle) → found (numbered n) hs ≡ Some h → Sized (h .header) (h .live) → Sized (h .header) (change h)) where
   abbrev turned : Handle → Handle
   turned h = withLive h (change h)
 
   pub handles-changed : SoundHandles (amended (numbered n) turned hs) gens issued
   handles-changed = record {
-      few-handles = omega (arith, s .few-handles, length-amended (numbered n) turned hs);
-      numbers-issued = all-amended _ (numbered n) turned hs (λ x e q. q) (s .numbers-issued);
-      numbers-distinct = subst Distinct (sym (keys-amended (λ (h : Handle). h .number) (numbered n) turned (λ x. refl) hs)) (s .numbers-distinct);
-      generations-issued = all-amended _ (numbered n) turned hs (λ x e q. q) (s .generations-issued);
-      handles-sized = all-amended _ (numbered n) turned hs keeps (s .handles-sized);
-    }
+    few-handles = omega (arith, s .few-handles, length-amended (numbered n) turned hs);
+    numbers-issued = all-amended _ (numbered n) turned hs (λ x e q. q) (s .numbers-issued);
+    numbers-distinct = subst Distinct (sym (keys-amended (λ (h : Handle). h .number) (numbered n) turned (λ x. refl) hs)) (s .numbers-distinct);
+    generations-issued = all-amended _ (numbered n) turned hs (λ x e q. q) (s .generations-issued);
+    handles-sized = all-amended _ (numbered n) turned hs keeps (s .handles-sized);
+  }
 
   pub agree-turned : (fs : List File) → Agree hs fs → Agree (amended (numbered n) turned hs) fs
   agree-turned fs a = all-amended _ (numbered n) turned hs (λ x e q. q) a
@@ -88,7 +88,7 @@ pub crash-write-sound : (m : Disk) (g offset : ℕ) (os : Patch) → Sound m →
 crash-write-sound m g offset os s =
     let change : File → List ℕ = λ f. within (f .header + offset + length os) (lay (f .durable) (f .header + offset) os) (f .durable) in
     let keeps : (f : File) → found (generated g) (m .volume .files) ≡ Some f → Sized (f .header) (f .durable) → Sized (f .header) (change f) =
-      λ f e q. sized-within (f .header) (f .header + offset + length os) (lay (f .durable) (f .header + offset) os) (f .durable) (λ h. sized-lay (f .header) (f .header + offset) (f .durable) os h q) q in
+    λ f e q. sized-within (f .header) (f .header + offset + length os) (lay (f .durable) (f .header + offset) os) (f .durable) (λ h. sized-lay (f .header) (f .header + offset) (f .durable) os h q) q in
     record {
       files = files-changed (m .volume) (m .generations) g change (s .files) keeps;
       handles = s .handles;
@@ -101,7 +101,7 @@ pub crash-resize-sound : (m : Disk) (g len : ℕ) → Sound m → Sound (withVol
 crash-resize-sound m g len s =
     let change : File → List ℕ = λ f. within (f .header + len) (cut (f .header + len) (f .durable)) (f .durable) in
     let keeps : (f : File) → found (generated g) (m .volume .files) ≡ Some f → Sized (f .header) (f .durable) → Sized (f .header) (change f) =
-      λ f e q. sized-within (f .header) (f .header + len) (cut (f .header + len) (f .durable)) (f .durable) (λ h. sized-cut (f .header) (f .header + len) (f .durable) (omega arith) h q) q in
+    λ f e q. sized-within (f .header) (f .header + len) (cut (f .header + len) (f .durable)) (f .durable) (λ h. sized-cut (f .header) (f .header + len) (f .durable) (omega arith) h q) q in
     record {
       files = files-changed (m .volume) (m .generations) g change (s .files) keeps;
       handles = s .handles;

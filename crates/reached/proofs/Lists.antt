@@ -20,9 +20,9 @@ module _ {A : Type 0} (P : A → Type 0) where
   all-amended p f [] h a = tt
   all-amended p f (x ∷ xs) h a = go (p x) refl (all-amended p f xs)
     where
-    go : (t : Bool) → p x ≡ t → (((y : A) → found p xs ≡ Some y → P y → P (f y)) → All P xs → All P (amended p f xs)) → All P (amended p f (x ∷ xs))
-    go true t more = rw t (h x (rw t refl) (a .0), a .1)
-    go false t more = rw t (a .0, more (λ y e. h y (rw t e)) (a .1))
+      go : (t : Bool) → p x ≡ t → (((y : A) → found p xs ≡ Some y → P y → P (f y)) → All P xs → All P (amended p f xs)) → All P (amended p f (x ∷ xs))
+      go true t more = rw t (h x (rw t refl) (a .0), a .1)
+      go false t more = rw t (a .0, more (λ y e. h y (rw t e)) (a .1))
 
   pub all-without : (p : A → Bool) (xs : List A) → All P xs → All P (without p xs)
   all-without p [] a = tt
@@ -32,27 +32,27 @@ module _ {A : Type 0} (P : A → Type 0) where
   all-found p [] x e a = absurd (let z : _≡_ {A = ℕ} 0 1 = cc in omega arith)
   all-found p (y ∷ ys) x e a = go (p y) refl (all-found p ys x)
     where
-    go : (t : Bool) → p y ≡ t → (found p ys ≡ Some x → All P ys → P x) → P x
-    go true t more = let k : Some y ≡ Some x = rw t at e in let s : y ≡ x = cc in subst P s (a .0)
-    go false t more = more (rw t at e) (a .1)
+      go : (t : Bool) → p y ≡ t → (found p ys ≡ Some x → All P ys → P x) → P x
+      go true t more = let k : Some y ≡ Some x = rw t at e in let s : y ≡ x = cc in subst P s (a .0)
+      go false t more = more (rw t at e) (a .1)
 
 -- what passes a test is found
 pub found-passes : {A : Type 0} (p : A → Bool) (xs : List A) (x : A) → found p xs ≡ Some x → p x ≡ true
 found-passes p [] x e = absurd (let z : _≡_ {A = ℕ} 0 1 = cc in omega arith)
 found-passes p (y ∷ ys) x e = go (p y) refl (found-passes p ys x)
   where
-  go : (t : Bool) → p y ≡ t → (found p ys ≡ Some x → p x ≡ true) → p x ≡ true
-  go true t more = let k : Some y ≡ Some x = rw t at e in let s : y ≡ x = cc in subst (λ z. p z ≡ true) s t
-  go false t more = more (rw t at e)
+    go : (t : Bool) → p y ≡ t → (found p ys ≡ Some x → p x ≡ true) → p x ≡ true
+    go true t more = let k : Some y ≡ Some x = rw t at e in let s : y ≡ x = cc in subst (λ z. p z ≡ true) s t
+    go false t more = more (rw t at e)
 
 -- where nothing is found, each fails
 pub none-passes : {A : Type 0} (p : A → Bool) (xs : List A) → found p xs ≡ None → All (λ x. p x ≡ false) xs
 none-passes p [] e = tt
 none-passes p (y ∷ ys) e = go (p y) refl (none-passes p ys)
   where
-  go : (t : Bool) → p y ≡ t → (found p ys ≡ None → All (λ x. p x ≡ false) ys) → All (λ x. p x ≡ false) (y ∷ ys)
-  go true t more = absurd (let k : Some y ≡ None = rw t at e in let z : _≡_ {A = ℕ} 0 1 = cc in omega arith)
-  go false t more = (t, more (rw t at e))
+    go : (t : Bool) → p y ≡ t → (found p ys ≡ None → All (λ x. p x ≡ false) ys) → All (λ x. p x ≡ false) (y ∷ ys)
+    go true t more = absurd (let k : Some y ≡ None = rw t at e in let z : _≡_ {A = ℕ} 0 1 = cc in omega arith)
+    go false t more = (t, more (rw t at e))
 
 -- a change that keeps a key keeps all keys
 pub keys-amended : {A K : Type 0} (key : A → K) (p : A → Bool) (f : A → A) → ((x : A) → key (f x) ≡ key x) → (xs : List A) → map key (amended p f xs) ≡ map key xs
@@ -86,9 +86,9 @@ module _ {A K : Type 0} (key : A → K) where
   distinct-push [] x a d = (tt, tt)
   distinct-push (y ∷ ys) x a d = (apart ys (a .0) (d .0), distinct-push ys x (a .1) (d .1))
     where
-    apart : (zs : List A) → (key y ≡ key x → ⊥) → All (λ k. key y ≡ k → ⊥) (map key zs) → All (λ k. key y ≡ k → ⊥) (map key (zs ++ (x ∷ [])))
-    apart [] n b = (n, tt)
-    apart (z ∷ zs) n b = (b .0, apart zs n (b .1))
+      apart : (zs : List A) → (key y ≡ key x → ⊥) → All (λ k. key y ≡ k → ⊥) (map key zs) → All (λ k. key y ≡ k → ⊥) (map key (zs ++ (x ∷ [])))
+      apart [] n b = (n, tt)
+      apart (z ∷ zs) n b = (b .0, apart zs n (b .1))
 
   unkeyed : (Q : K → Type 0) (xs : List A) → All Q (map key xs) → All (λ x. Q (key x)) xs
   unkeyed Q [] a = tt
@@ -103,15 +103,15 @@ module _ {A K : Type 0} (key : A → K) where
   distinct-found p P [] x e d q = tt
   distinct-found p P (y ∷ ys) x e d q = go (p y) refl (distinct-found p P ys x)
     where
-    go : (t : Bool) → p y ≡ t → (found p ys ≡ Some x → Distinct (map key ys) → P x → All (λ z. key x ≡ key z → P z) ys) → All (λ z. key x ≡ key z → P z) (y ∷ ys)
-    go true t more =
-        let k : Some y ≡ Some x = rw t at e in
-        let s : y ≡ x = cc in
-        ((λ _. subst P (sym s) q), apart-from P y x ys s (unkeyed (λ k. key y ≡ k → ⊥) ys (d .0)))
-    go false t more =
-        let here : found p ys ≡ Some x = rw t at e in
-        let apart : key y ≡ key x → ⊥ = all-found (λ z. key y ≡ key z → ⊥) p ys x here (unkeyed (λ k. key y ≡ k → ⊥) ys (d .0)) in
-        ((λ k. absurd (apart (sym k))), more here (d .1) q)
+      go : (t : Bool) → p y ≡ t → (found p ys ≡ Some x → Distinct (map key ys) → P x → All (λ z. key x ≡ key z → P z) ys) → All (λ z. key x ≡ key z → P z) (y ∷ ys)
+      go true t more =
+          let k : Some y ≡ Some x = rw t at e in
+          let s : y ≡ x = cc in
+          ((λ _. subst P (sym s) q), apart-from P y x ys s (unkeyed (λ k. key y ≡ k → ⊥) ys (d .0)))
+      go false t more =
+          let here : found p ys ≡ Some x = rw t at e in
+          let apart : key y ≡ key x → ⊥ = all-found (λ z. key y ≡ key z → ⊥) p ys x here (unkeyed (λ k. key y ≡ k → ⊥) ys (d .0)) in
+          ((λ k. absurd (apart (sym k))), more here (d .1) q)
 
 pub length-amended : {A : Type 0} (p : A → Bool) (f : A → A) (xs : List A) → length (amended p f xs) ≡ length xs
 length-amended p f [] = refl
@@ -139,11 +139,11 @@ pub found-without : {A : Type 0} (a b : A → Bool) (xs : List A) → ((x : A) �
 found-without a b [] h e = e
 found-without a b (x ∷ xs) h e = go (a x) (b x) refl refl (found-without a b xs h)
   where
-  go : (s t : Bool) → a x ≡ s → b x ≡ t → (isSome (found a xs) ≡ true → isSome (found a (without b xs)) ≡ true) → isSome (found a (without b (x ∷ xs))) ≡ true
-  go true true p q more = absurd (let k : true ≡ false = sym q ∙ h x p in let z : _≡_ {A = ℕ} 0 1 = cc in omega arith)
-  go true false p q more = rw (q, p) refl
-  go false true p q more = rw q (rw p at e)
-  go false false p q more = rw (q, p) (more (rw p at e))
+    go : (s t : Bool) → a x ≡ s → b x ≡ t → (isSome (found a xs) ≡ true → isSome (found a (without b xs)) ≡ true) → isSome (found a (without b (x ∷ xs))) ≡ true
+    go true true p q more = absurd (let k : true ≡ false = sym q ∙ h x p in let z : _≡_ {A = ℕ} 0 1 = cc in omega arith)
+    go true false p q more = rw (q, p) refl
+    go false true p q more = rw q (rw p at e)
+    go false false p q more = rw (q, p) (more (rw p at e))
 
 pub same-other : (r q p : List ℕ) → sameBytes r q ≡ true → sameBytes q p ≡ false → sameBytes r p ≡ false
 same-other r q p e h = ap (λ x. sameBytes x p) (sameBytes-decides r q .0 e) ∙ h
@@ -158,6 +158,6 @@ pub found-more : {A : Type 0} (a : A → Bool) (xs ys : List A) → isSome (foun
 found-more a [] ys e = absurd (let k : false ≡ true = e in let z : _≡_ {A = ℕ} 0 1 = cc in omega arith)
 found-more a (x ∷ xs) ys e = go (a x) refl (found-more a xs ys)
   where
-  go : (t : Bool) → a x ≡ t → (isSome (found a xs) ≡ true → isSome (found a (xs ++ ys)) ≡ true) → isSome (found a (x ∷ (xs ++ ys))) ≡ true
-  go true t more = rw t refl
-  go false t more = rw t (more (rw t at e))
+    go : (t : Bool) → a x ≡ t → (isSome (found a xs) ≡ true → isSome (found a (xs ++ ys)) ≡ true) → isSome (found a (x ∷ (xs ++ ys))) ≡ true
+    go true t more = rw t refl
+    go false t more = rw t (more (rw t at e))

@@ -29,8 +29,8 @@ use Rattle.reached.proofs.Lists.{all-found, none-passes, distinct-push, distin
 
 -- an open either leaves a store as it is, or met none of its refusals
 pub chosen : {A B : Type 0} (long full crowd valid : Bool) (a : A) (new old : B) (P : B → Type 0)
-  → (long ≡ false → full ≡ false → crowd ≡ false → valid ≡ true → P new) → P old
-  → P (whenOk (refused (cond long (Some TooLong) (cond (full || crowd) (Some TableFull) None)) (cond valid (Ok a) (Err BadPartition))) new old)
+    → (long ≡ false → full ≡ false → crowd ≡ false → valid ≡ true → P new) → P old
+    → P (whenOk (refused (cond long (Some TooLong) (cond (full || crowd) (Some TableFull) None)) (cond valid (Ok a) (Err BadPartition))) new old)
 chosen true full crowd valid a new old P n o = o
 chosen false true crowd valid a new old P n o = o
 chosen false false true valid a new old P n o = o
@@ -49,7 +49,7 @@ room-left false n k e f = leb-false k n e
 
 -- a missing partition is made
 module _ (v : Volume) (gens : ℕ) (p : List ℕ) (s : SoundFiles v gens) (valid : isPartition p ≡ true)
-  (room : (not (partitionStands v p) && leb partitionLimit (length (v .partitions))) ≡ false) where
+    (room : (not (partitionStands v p) && leb partitionLimit (length (v .partitions))) ≡ false) where
   abbrev stood : List (List ℕ) → Volume
   stood ps = record { partitions = ps; files = v .files }
 
@@ -60,28 +60,28 @@ module _ (v : Volume) (gens : ℕ) (p : List ℕ) (s : SoundFiles v gens) (valid
   pub partition-made : Made (cond (partitionStands v p) (v .partitions) (v .partitions ++ (p ∷ [])))
   partition-made = go (found (λ q. sameBytes q p) (v .partitions)) refl
     where
-    go : (o : Option (List ℕ)) → found (λ q. sameBytes q p) (v .partitions) ≡ o → Made (cond (isSome o) (v .partitions) (v .partitions ++ (p ∷ [])))
-    go (Some q) e = record { sound = s; there = ap isSome e }
-    go None e =
-        let fails = none-passes (λ q. sameBytes q p) (v .partitions) e in
-        let n = length-push (v .partitions) p in
-        let free : length (v .partitions) < partitionLimit = room-left (partitionStands v p) (length (v .partitions)) partitionLimit room (ap isSome e) in
-        record {
-          sound = record {
-            few-partitions = omega arith;
-            few-files = s .few-files;
-            partitions-valid = all-push _ (v .partitions) p (s .partitions-valid) valid;
-            partitions-distinct = subst Distinct (map-id (v .partitions ++ (p ∷ [])))
-              (distinct-push (λ (q : List ℕ). q) (v .partitions) p (all-weaker _ _ (λ q f. other-bytes q p f) (v .partitions) fails) (subst Distinct (sym (map-id (v .partitions))) (s .partitions-distinct)));
-            files-placed = all-weaker _ _ (λ f h. found-more (λ q. sameBytes q (f .partition)) (v .partitions) (p ∷ []) h) (v .files) (s .files-placed);
-            names-short = s .names-short;
-            names-distinct = s .names-distinct;
-            generations-issued = s .generations-issued;
-            generations-distinct = s .generations-distinct;
-            files-sized = s .files-sized;
-          };
-          there = found-push (λ q. sameBytes q p) (v .partitions) p (same-self p);
-        }
+      go : (o : Option (List ℕ)) → found (λ q. sameBytes q p) (v .partitions) ≡ o → Made (cond (isSome o) (v .partitions) (v .partitions ++ (p ∷ [])))
+      go (Some q) e = record { sound = s; there = ap isSome e }
+      go None e =
+          let fails = none-passes (λ q. sameBytes q p) (v .partitions) e in
+          let n = length-push (v .partitions) p in
+          let free : length (v .partitions) < partitionLimit = room-left (partitionStands v p) (length (v .partitions)) partitionLimit room (ap isSome e) in
+          record {
+            sound = record {
+              few-partitions = omega arith;
+              few-files = s .few-files;
+              partitions-valid = all-push _ (v .partitions) p (s .partitions-valid) valid;
+              partitions-distinct = subst Distinct (map-id (v .partitions ++ (p ∷ [])))
+                  (distinct-push (λ (q : List ℕ). q) (v .partitions) p (all-weaker _ _ (λ q f. other-bytes q p f) (v .partitions) fails) (subst Distinct (sym (map-id (v .partitions))) (s .partitions-distinct)));
+              files-placed = all-weaker _ _ (λ f h. found-more (λ q. sameBytes q (f .partition)) (v .partitions) (p ∷ []) h) (v .files) (s .files-placed);
+              names-short = s .names-short;
+              names-distinct = s .names-distinct;
+              generations-issued = s .generations-issued;
+              generations-distinct = s .generations-distinct;
+              files-sized = s .files-sized;
+            };
+            there = found-push (λ q. sameBytes q p) (v .partitions) p (same-self p);
+          }
 
 -- a file whose name differs
 other-name : (p n : List ℕ) (f : File) → named p n f ≡ false → nameOf f ≡ (p, n) → ⊥
@@ -92,8 +92,8 @@ other-name p n f e k =
 
 -- a missing file is made
 module _ (v : Volume) (gens : ℕ) (p n header : List ℕ) (s : SoundFiles v gens) (there : partitionStands v p ≡ true)
-  (short : length n ≤ nameLimit) (small : length header ≤ headerLimit)
-  (room : (not (fileStands v p n) && leb fileLimit (length (v .files))) ≡ false) (hs : List Handle) (issued : ℕ) (hsound : SoundHandles hs gens issued) (agree : Agree hs (v .files)) where
+    (short : length n ≤ nameLimit) (small : length header ≤ headerLimit)
+    (room : (not (fileStands v p n) && leb fileLimit (length (v .files))) ≡ false) (hs : List Handle) (issued : ℕ) (hsound : SoundHandles hs gens issued) (agree : Agree hs (v .files)) where
   abbrev holding : List File → Volume
   holding fs = record { partitions = v .partitions; files = fs }
 
@@ -109,9 +109,9 @@ module _ (v : Volume) (gens : ℕ) (p n header : List ℕ) (s : SoundFiles v gen
   pub file-made : Held (openedFile v p n header gens) (cond (fileStands v p n) (v .files) (v .files ++ (newFile p n header gens ∷ []))) (cond (fileStands v p n) gens (gens + 1))
   file-made = go (fileAt v p n) refl
     where
-    go : (o : Option File) → fileAt v p n ≡ o
-      → Held (whenSome o (λ f. f) (newFile p n header gens)) (cond (isSome o) (v .files) (v .files ++ (newFile p n header gens ∷ []))) (cond (isSome o) gens (gens + 1))
-    go (Some f) e = record {
+      go : (o : Option File) → fileAt v p n ≡ o
+          → Held (whenSome o (λ f. f) (newFile p n header gens)) (cond (isSome o) (v .files) (v .files ++ (newFile p n header gens ∷ []))) (cond (isSome o) gens (gens + 1))
+      go (Some f) e = record {
         sound = s;
         more = omega arith;
         most = omega arith;
@@ -120,33 +120,33 @@ module _ (v : Volume) (gens : ℕ) (p n header : List ℕ) (s : SoundFiles v gen
         old = agree;
         new = distinct-found (λ (x : File). x .generation) (named p n) (λ x. f .header ≡ x .header) (v .files) f e (s .generations-distinct) refl;
       }
-    go None e =
-        let f = newFile p n header gens in
-        let fails = none-passes (named p n) (v .files) e in
-        let k = length-push (v .files) f in
-        let free : length (v .files) < fileLimit = room-left (fileStands v p n) (length (v .files)) fileLimit room (ap isSome e) in
-        let own : Sized (length header) header = record { short = small; whole = omega arith; fits = omega arith } in
-        record {
-          sound = record {
-            few-partitions = s .few-partitions;
-            few-files = omega arith;
-            partitions-valid = s .partitions-valid;
-            partitions-distinct = s .partitions-distinct;
-            files-placed = all-push _ (v .files) f (s .files-placed) there;
-            names-short = all-push _ (v .files) f (s .names-short) short;
-            names-distinct = distinct-push nameOf (v .files) f (all-weaker _ _ (λ x q. other-name p n x q) (v .files) fails) (s .names-distinct);
-            generations-issued = all-push _ (v .files) f (all-weaker _ _ (λ x q. omega arith) (v .files) (s .generations-issued)) (omega arith);
-            generations-distinct = distinct-push (λ (x : File). x .generation) (v .files) f (all-weaker _ _ (λ x q d. omega arith) (v .files) (s .generations-issued)) (s .generations-distinct);
-            files-sized = all-push _ (v .files) f (s .files-sized) own;
-          };
-          more = omega arith;
-          most = omega arith;
-          issued-file = omega arith;
-          sized = own;
-          old = both hs agree (hsound .generations-issued);
-          new = all-push _ (v .files) f (all-weaker _ _ (λ x q d. absurd (omega arith)) (v .files) (s .generations-issued)) (λ _. refl);
-        }
-      where
-      both : (xs : List Handle) → Agree xs (v .files) → All (λ h. h .generation < gens) xs → Agree xs (v .files ++ (newFile p n header gens ∷ []))
-      both [] a b = tt
-      both (h ∷ xs) a b = (all-push _ (v .files) (newFile p n header gens) (a .0) (λ d. absurd (omega (arith, b .0))), both xs (a .1) (b .1))
+      go None e =
+          let f = newFile p n header gens in
+          let fails = none-passes (named p n) (v .files) e in
+          let k = length-push (v .files) f in
+          let free : length (v .files) < fileLimit = room-left (fileStands v p n) (length (v .files)) fileLimit room (ap isSome e) in
+          let own : Sized (length header) header = record { short = small; whole = omega arith; fits = omega arith } in
+          record {
+            sound = record {
+              few-partitions = s .few-partitions;
+              few-files = omega arith;
+              partitions-valid = s .partitions-valid;
+              partitions-distinct = s .partitions-distinct;
+              files-placed = all-push _ (v .files) f (s .files-placed) there;
+              names-short = all-push _ (v .files) f (s .names-short) short;
+              names-distinct = distinct-push nameOf (v .files) f (all-weaker _ _ (λ x q. other-name p n x q) (v .files) fails) (s .names-distinct);
+              generations-issued = all-push _ (v .files) f (all-weaker _ _ (λ x q. omega arith) (v .files) (s .generations-issued)) (omega arith);
+              generations-distinct = distinct-push (λ (x : File). x .generation) (v .files) f (all-weaker _ _ (λ x q d. omega arith) (v .files) (s .generations-issued)) (s .generations-distinct);
+              files-sized = all-push _ (v .files) f (s .files-sized) own;
+            };
+            more = omega arith;
+            most = omega arith;
+            issued-file = omega arith;
+            sized = own;
+            old = both hs agree (hsound .generations-issued);
+            new = all-push _ (v .files) f (all-weaker _ _ (λ x q d. absurd (omega arith)) (v .files) (s .generations-issued)) (λ _. refl);
+          }
+        where
+          both : (xs : List Handle) → Agree xs (v .files) → All (λ h. h .generation < gens) xs → Agree xs (v .files ++ (newFile p n header gens ∷ []))
+          both [] a b = tt
+          both (h ∷ xs) a b = (all-push _ (v .files) (newFile p n header gens) (a .0) (λ d. absurd (omega (arith, b .0))), both xs (a .1) (b .1))

@@ -24,35 +24,35 @@ use Rattle.reached.proofs.Makes.{chosen, partition-made, file-made}
 pub open-sound : (m : Disk) (p n header : List ℕ) → Sound m → Sound (opened m p n header)
 open-sound m p n header s =
     chosen (openTooLong p n header) (handlesFull (m .handles) (m .issued)) (crowded (m .volume) p n) (isPartition p) _ _ m Sound
-      (λ long full crowd valid.
-        let v = m .volume in
-        let names = or-parts (nameTooLong p) (nameTooLong n || ltb headerLimit (length header)) long in
-        let rest = or-parts (nameTooLong n) (ltb headerLimit (length header)) (names .1) in
-        let table = or-parts (leb handleLimit (length (m .handles))) (leb issueLimit (m .issued)) full in
-        let free : length (m .handles) < handleLimit = leb-false handleLimit (length (m .handles)) (table .0) in
-        let few : m .issued < issueLimit = leb-false issueLimit (m .issued) (table .1) in
-        let rooms = or-parts (not (partitionStands v p) && leb partitionLimit (length (v .partitions))) (not (fileStands v p n) && leb fileLimit (length (v .files))) crowd in
-        let made = partition-made v (m .generations) p (s .files) valid (rooms .0) in
-        let ps = cond (partitionStands v p) (v .partitions) (v .partitions ++ (p ∷ [])) in
-        let held = file-made (record { partitions = ps; files = v .files }) (m .generations) p n header (made .sound) (made .there)
-          (ltb-false nameLimit (length n) (rest .0)) (ltb-false headerLimit (length header) (rest .1)) (rooms .1) (m .handles) (m .issued) (s .handles) (s .headers) in
-        let f = openedFile v p n header (m .generations) in
-        let h : Handle = record { number = m .issued; generation = f .generation; header = f .header; live = f .durable } in
-        let count = length-push (m .handles) h in
-        record {
-          files = held .sound;
-          handles = record {
-            few-handles = omega arith;
-            numbers-issued = all-push _ (m .handles) h (all-weaker _ _ (λ x q. omega arith) (m .handles) (s .handles .numbers-issued)) (omega arith);
-            numbers-distinct = distinct-push (λ (x : Handle). x .number) (m .handles) h (all-weaker _ _ (λ x q d. omega arith) (m .handles) (s .handles .numbers-issued)) (s .handles .numbers-distinct);
-            generations-issued = all-push _ (m .handles) h (all-weaker _ _ (λ x q. omega (arith, held .more)) (m .handles) (s .handles .generations-issued)) (held .issued-file);
-            handles-sized = all-push _ (m .handles) h (s .handles .handles-sized) (held .sized);
-          };
-          headers = all-push _ (m .handles) h (held .old) (held .new);
-          few-generations = omega (arith, held .most, s .few-generations);
-          few-issued = omega arith;
-        })
-      s
+    (λ long full crowd valid.
+    let v = m .volume in
+    let names = or-parts (nameTooLong p) (nameTooLong n || ltb headerLimit (length header)) long in
+    let rest = or-parts (nameTooLong n) (ltb headerLimit (length header)) (names .1) in
+    let table = or-parts (leb handleLimit (length (m .handles))) (leb issueLimit (m .issued)) full in
+    let free : length (m .handles) < handleLimit = leb-false handleLimit (length (m .handles)) (table .0) in
+    let few : m .issued < issueLimit = leb-false issueLimit (m .issued) (table .1) in
+    let rooms = or-parts (not (partitionStands v p) && leb partitionLimit (length (v .partitions))) (not (fileStands v p n) && leb fileLimit (length (v .files))) crowd in
+    let made = partition-made v (m .generations) p (s .files) valid (rooms .0) in
+    let ps = cond (partitionStands v p) (v .partitions) (v .partitions ++ (p ∷ [])) in
+    let held = file-made (record { partitions = ps; files = v .files }) (m .generations) p n header (made .sound) (made .there)
+    (ltb-false nameLimit (length n) (rest .0)) (ltb-false headerLimit (length header) (rest .1)) (rooms .1) (m .handles) (m .issued) (s .handles) (s .headers) in
+    let f = openedFile v p n header (m .generations) in
+    let h : Handle = record { number = m .issued; generation = f .generation; header = f .header; live = f .durable } in
+    let count = length-push (m .handles) h in
+    record {
+      files = held .sound;
+      handles = record {
+        few-handles = omega arith;
+        numbers-issued = all-push _ (m .handles) h (all-weaker _ _ (λ x q. omega arith) (m .handles) (s .handles .numbers-issued)) (omega arith);
+        numbers-distinct = distinct-push (λ (x : Handle). x .number) (m .handles) h (all-weaker _ _ (λ x q d. omega arith) (m .handles) (s .handles .numbers-issued)) (s .handles .numbers-distinct);
+        generations-issued = all-push _ (m .handles) h (all-weaker _ _ (λ x q. omega (arith, held .more)) (m .handles) (s .handles .generations-issued)) (held .issued-file);
+        handles-sized = all-push _ (m .handles) h (s .handles .handles-sized) (held .sized);
+      };
+      headers = all-push _ (m .handles) h (held .old) (held .new);
+      few-generations = omega (arith, held .most, s .few-generations);
+      few-issued = omega arith;
+    })
+    s
 
 call-sound : (m : Disk) (c : Call) → Sound m → Sound (after m c)
 call-sound m Reset s = empty-sound

@@ -17,9 +17,9 @@ use Rattle.store.specs.Durable.{openTooLong, crowded, placeAnswer}
 use Rattle.store.specs.Whole.{openFault, openAnswer, opened}
 
 passes : (long full crowd valid : Bool) (f : Fault) (a b : ℕ × ℕ)
-  → None ≡ cond long (Some TooLong) (cond (full || crowd) (Some TableFull) None)
-  → Err f ≡ refused (cond long (Some TooLong) (cond crowd (Some TableFull) None)) (cond valid (Ok a) (Err BadPartition))
-  → Err f ≡ refused (cond long (Some TooLong) (cond (full || crowd) (Some TableFull) None)) (cond valid (Ok b) (Err BadPartition))
+    → None ≡ cond long (Some TooLong) (cond (full || crowd) (Some TableFull) None)
+    → Err f ≡ refused (cond long (Some TooLong) (cond crowd (Some TableFull) None)) (cond valid (Ok a) (Err BadPartition))
+    → Err f ≡ refused (cond long (Some TooLong) (cond (full || crowd) (Some TableFull) None)) (cond valid (Ok b) (Err BadPartition))
 passes true full crowd valid f a b e h = absurd (let z : _≡_ {A = ℕ} 0 1 = cc in omega arith)
 passes false true crowd valid f a b e h = absurd (let z : _≡_ {A = ℕ} 0 1 = cc in omega arith)
 passes false false true valid f a b e h = absurd (let z : _≡_ {A = ℕ} 0 1 = cc in omega arith)

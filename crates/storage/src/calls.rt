@@ -22,7 +22,11 @@ impl<M: Medium> Storage<M> {
         ensures { λ r. ⌜ diskOver (M·Medium .volume (r .medium)) (r .handles) (r .generations) ≡ emptyDisk ⌝ }
     {
         medium.reset();
-        Storage { medium, handles: Handles::new(), generations: 0 }
+        Storage {
+            medium,
+            handles: Handles::new(),
+            generations: 0,
+        }
     }
 
     /// An open that meets none of the faults of its question.
@@ -33,7 +37,8 @@ impl<M: Medium> Storage<M> {
     {
         let stands = self.medium.stands(partition, name);
         let mut live = Content::new();
-        let (generation, header) = self.medium.place(partition, name, header, self.generations, &mut live)?;
+        let (generation, header) = self.medium
+            .place(partition, name, header, self.generations, &mut live)?;
         let number = self.handles.open(generation, header, &live)?;
         if !stands {
             self.generations += 1;
@@ -110,7 +115,8 @@ pub impl<M: Medium> Store for Storage<M> as StorageStore {
         let (generation, header) = (blob.generation, blob.header);
         self.handles.write(handle, offset, bytes)?;
         if sync {
-            self.medium.write(generation, header + offset as usize, bytes)
+            self.medium
+                .write(generation, header + offset as usize, bytes)
         } else {
             Ok(())
         }

@@ -28,7 +28,7 @@ short-resize end e = grind (arith, tells)
 pub write-fits : (hs : List Handle) (n offset len : ℕ) (h : Handle) → handleAt hs n ≡ Some h → writeFault hs n offset len ≡ None → offset + len + h .header ≤ limit
 write-fits hs n offset len h e f =
     short-write len (offset + len + h .header)
-      (at-held (handleAt hs n) h (λ x. cond (ltb writeLimit len) (Some TooLong) (cond (leb (offset + len + x .header) limit) None (Some NoSpace))) (Some NoHandle) None e f)
+    (at-held (handleAt hs n) h (λ x. cond (ltb writeLimit len) (Some TooLong) (cond (leb (offset + len + x .header) limit) None (Some NoSpace))) (Some NoHandle) None e f)
 
 pub resize-fits : (hs : List Handle) (n len : ℕ) (h : Handle) → handleAt hs n ≡ Some h → resizeFault hs n len ≡ None → len + h .header ≤ limit
 resize-fits hs n len h e f =

@@ -80,15 +80,15 @@ openedFile v p n header g = whenSome (fileAt v p n) (λ f. f) (newFile p n heade
 -- a missing partition and a missing file are made
 abbrev pub openedVolume : Volume → List ℕ → List ℕ → List ℕ → ℕ → Volume
 openedVolume v p n header g = record {
-      partitions = cond (partitionStands v p) (v .partitions) (v .partitions ++ (p ∷ []));
-      files = cond (fileStands v p n) (v .files) (v .files ++ (newFile p n header g ∷ []));
-    }
+  partitions = cond (partitionStands v p) (v .partitions) (v .partitions ++ (p ∷ []));
+  files = cond (fileStands v p n) (v .files) (v .files ++ (newFile p n header g ∷ []));
+}
 
 -- what the durable half of an open answers: BadPartition, or the file's generation and header length
 abbrev pub placeAnswer : Volume → List ℕ → List ℕ → List ℕ → ℕ → Result (ℕ × ℕ) Fault
 placeAnswer v p n header g =
     refused (placeFault v p n header)
-      (cond (isPartition p) (Ok (openedFile v p n header g .generation, openedFile v p n header g .header)) (Err BadPartition))
+    (cond (isPartition p) (Ok (openedFile v p n header g .generation, openedFile v p n header g .header)) (Err BadPartition))
 
 -- BadPartition, then PartitionMissing, and else this answer
 abbrev pub inStanding : {A : Type 0} → Volume → List ℕ → Result A Fault → Result A Fault
@@ -168,7 +168,7 @@ durableReplaced v g bs = withFiles v (amended (generated g) (λ f. withDurable f
 abbrev pub crashWritten : Volume → ℕ → ℕ → Patch → Volume
 crashWritten v g offset os =
     withFiles v (amended (generated g)
-      (λ f. withDurable f (within (f .header + offset + length os) (lay (f .durable) (f .header + offset) os) (f .durable))) (v .files))
+    (λ f. withDurable f (within (f .header + offset + length os) (lay (f .durable) (f .header + offset) os) (f .durable))) (v .files))
 
 -- what a crash keeps of a resize
 abbrev pub crashResized : Volume → ℕ → ℕ → Volume

@@ -52,8 +52,8 @@ heldFault hs n = whenSome (handleAt hs n) (λ h. None) (Some NoHandle)
 abbrev pub writeFault : List Handle → ℕ → ℕ → ℕ → Option Fault
 writeFault hs n offset len =
     whenSome (handleAt hs n)
-      (λ h. cond (ltb writeLimit len) (Some TooLong) (cond (leb (offset + len + h .header) limit) None (Some NoSpace)))
-      (Some NoHandle)
+    (λ h. cond (ltb writeLimit len) (Some TooLong) (cond (leb (offset + len + h .header) limit) None (Some NoSpace)))
+    (Some NoHandle)
 
 -- what a resize to a length meets: NoHandle, then NoSpace
 abbrev pub resizeFault : List Handle → ℕ → ℕ → Option Fault
@@ -64,8 +64,8 @@ resizeFault hs n len = whenSome (handleAt hs n) (λ h. cond (leb (len + h .heade
 abbrev pub readOf : Handle → ℕ → ℕ → Done
 readOf h offset len =
     cond (ltb (offset + len + h .header) (2 ^ 64))
-      (cond (leb (offset + len + h .header) (length (h .live))) (Ok tt) (Err InsufficientLength))
-      (Err ReadOverflow)
+    (cond (leb (offset + len + h .header) (length (h .live))) (Ok tt) (Err InsufficientLength))
+    (Err ReadOverflow)
 
 -- NoHandle comes first
 abbrev pub readAnswer : List Handle → ℕ → ℕ → ℕ → Done

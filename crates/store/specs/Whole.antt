@@ -18,7 +18,7 @@ use Rattle.store.specs.Durable.{openTooLong, crowded, openedFile, openedVolume
 abbrev pub openFault : Disk → List ℕ → List ℕ → List ℕ → Option Fault
 openFault m p n header =
     cond (openTooLong p n header) (Some TooLong)
-      (cond (handlesFull (m .handles) (m .issued) || crowded (m .volume) p n) (Some TableFull) None)
+    (cond (handlesFull (m .handles) (m .issued) || crowded (m .volume) p n) (Some TableFull) None)
 
 -- the size of a file: its durable bytes without the header
 abbrev pub sizeOf : File → ℕ
@@ -28,20 +28,20 @@ sizeOf f = length (f .durable) - f .header
 abbrev pub openAnswer : Disk → List ℕ → List ℕ → List ℕ → Result (ℕ × ℕ) Fault
 openAnswer m p n header =
     refused (openFault m p n header)
-      (cond (isPartition p) (Ok (m .issued, sizeOf (openedFile (m .volume) p n header (m .generations)))) (Err BadPartition))
+    (cond (isPartition p) (Ok (m .issued, sizeOf (openedFile (m .volume) p n header (m .generations)))) (Err BadPartition))
 
 -- the handle's live bytes are a copy of the durable ones
 abbrev pub opened : Disk → List ℕ → List ℕ → List ℕ → Disk
 opened m p n header =
     let f = openedFile (m .volume) p n header (m .generations) in
     whenOk (openAnswer m p n header)
-      (record {
-        volume = openedVolume (m .volume) p n header (m .generations);
-        handles = handlesWith (m .handles) (m .issued) (f .generation) (f .header) (f .durable);
-        generations = cond (fileStands (m .volume) p n) (m .generations) (m .generations + 1);
-        issued = m .issued + 1;
-      })
-      m
+    (record {
+      volume = openedVolume (m .volume) p n header (m .generations);
+      handles = handlesWith (m .handles) (m .issued) (f .generation) (f .header) (f .durable);
+      generations = cond (fileStands (m .volume) p n) (m .generations) (m .generations + 1);
+      issued = m .issued + 1;
+    })
+    m
 
 -- a call that makes bytes durable gives BlobMissing if no file has the handle's generation
 abbrev pub syncOf : Disk → ℕ → Done
@@ -62,7 +62,7 @@ writtenDurable m n offset bs =
 abbrev pub wrote : Disk → ℕ → ℕ → List ℕ → Bool → Disk
 wrote m n offset bs sync =
     whenSome (writeFault (m .handles) n offset (length bs)) (λ _. m)
-      (cond sync (withVolume (writtenLive m n offset bs) (writtenDurable m n offset bs)) (writtenLive m n offset bs))
+    (cond sync (withVolume (writtenLive m n offset bs) (writtenDurable m n offset bs)) (writtenLive m n offset bs))
 
 abbrev pub resizeAnswer : Disk → ℕ → ℕ → Done
 resizeAnswer m n len = refused (resizeFault (m .handles) n len) (Ok tt)

@@ -10,7 +10,10 @@ impl Generations {
     pub fn new() -> Self
         ensures { λ r. ⌜ taken r ≡ [] ⌝ }
     {
-        Generations { numbers: [0; 8], count: 0 }
+        Generations {
+            numbers: [0; 8],
+            count: 0,
+        }
     }
 
     fn has_room(&self) -> bool

@@ -12,7 +12,10 @@ ghost use Rattle.store.specs.Whole.{openFault, openAnswer, opened, writeAnswer
 ghost use Rattle.store.specs.Taken.{taken};
 use fault::Fault;
 use generations::Generations;
-use limits::{look_fault, remove_fault, remove_partition_fault, scan_fault};
+use limits::look_fault;
+use limits::remove_fault;
+use limits::remove_partition_fault;
+use limits::scan_fault;
 
 pub mod gather;
 pub mod generations;

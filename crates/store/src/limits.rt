@@ -9,7 +9,9 @@ use name::listing::SCAN_AREA;
 
 /// The most partitions and the most files of a store, and the most bytes of a header.
 pub const PARTITION_LIMIT: usize = 4;
+
 pub const FILE_LIMIT: usize = 8;
+
 pub const HEADER_LIMIT: usize = 64;
 
 pub fn name_too_long(name: &[u8]) -> bool

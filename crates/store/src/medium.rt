@@ -33,7 +33,14 @@ pub trait Medium {
 
     /// Finds a file, or makes it with this header and generation; gives its generation and header length, and puts a
     /// copy of its durable bytes into `live`.
-    fn place(&mut self, partition: &[u8], name: &[u8], header: &[u8], generation: u64, live: &mut Content) -> Result<(u64, usize), Fault>
+    fn place(
+        &mut self,
+        partition: &[u8],
+        name: &[u8],
+        header: &[u8],
+        generation: u64,
+        live: &mut Content,
+    ) -> Result<(u64, usize), Fault>
         ensures answer { λ r. ⌜ r ≡ placeAnswer (volume (now (self .entry))) (now (partition .entry)) (now (name .entry)) (now (header .entry)) generation ⌝ }
         ensures state { λ r. ⌜ volume (now (self .exit)) ≡ whenOk r (openedVolume (volume (now (self .entry))) (now (partition .entry)) (now (name .entry)) (now (header .entry)) generation) (volume (now (self .entry))) ⌝ }
         ensures copied { λ r. ⌜ bytesOf (now (live .exit)) ≡ whenOk r (openedFile (volume (now (self .entry))) (now (partition .entry)) (now (name .entry)) (now (header .entry)) generation .durable) (bytesOf (now (live .entry))) ⌝ };

@@ -35,18 +35,18 @@ used-more f rows n z h = ap (take (n + 1)) (map-set f rows n z) ∙ take-more-se
 
 -- one row more, behind those of a front that stays or was changed in place
 pub used-push : {R A : Type 0} (f : R → A) (rows ys : List R) (n k : ℕ) (z : R) → length ys ≡ n → n < length rows → k ≡ n
-  → used f (n + 1) (set (ys ++ drop k rows) n z) ≡ map f ys ++ (f z ∷ [])
+    → used f (n + 1) (set (ys ++ drop k rows) n z) ≡ map f ys ++ (f z ∷ [])
 used-push f rows ys n k z e h t =
     let s : set (ys ++ drop k rows) n z ≡ ys ++ (z ∷ drop (n + 1) rows) =
-      rw (t, drop-more rows n z h) (set-at ys (getD rows n z) (drop (n + 1) rows) z n e) in
+    rw (t, drop-more rows n z h) (set-at ys (getD rows n z) (drop (n + 1) rows) z n e) in
     let m : map f (ys ++ (z ∷ drop (n + 1) rows)) ≡ (map f ys ++ (f z ∷ [])) ++ map f (drop (n + 1) rows) =
-      map-append f ys (z ∷ drop (n + 1) rows) ∙ sym (append-assoc (map f ys) (f z ∷ []) (map f (drop (n + 1) rows))) in
+    map-append f ys (z ∷ drop (n + 1) rows) ∙ sym (append-assoc (map f ys) (f z ∷ []) (map f (drop (n + 1) rows))) in
     rw (s, m) (take-at (map f ys ++ (f z ∷ [])) (map f (drop (n + 1) rows)) (n + 1) (omega (arith, length-push (map f ys) (f z), length-map ys f)))
 
 -- a row moved behind all others
 pub retired : {R : Type 0} (rows zs : List R) (i : ℕ) → i < length rows
-  → zs ≡ drop 1 (take (length rows - i) (drop i rows)) ++ take 1 (take (length rows - i) (drop i rows))
-  → putMid i (length rows - i) rows zs ≡ take i rows ++ (drop (i + 1) rows ++ take 1 (drop i rows))
+    → zs ≡ drop 1 (take (length rows - i) (drop i rows)) ++ take 1 (take (length rows - i) (drop i rows))
+    → putMid i (length rows - i) rows zs ≡ take i rows ++ (drop (i + 1) rows ++ take 1 (drop i rows))
 retired rows zs i h e =
     let all : take (length rows - i) (drop i rows) ≡ drop i rows = take-rest rows i in
     let one : drop 1 (drop i rows) ≡ drop (i + 1) rows = drop-drop 1 i rows in
@@ -55,19 +55,19 @@ retired rows zs i h e =
 
 -- the rows in use without one of them, which a retirement within the front has put last
 pub used-retired : {R A : Type 0} (f : R → A) (rows part : List R) (n k i : ℕ) → n ≤ length rows → k ≡ n → i < n
-  → part ≡ retiring (take k rows) i → used f (n - 1) (part ++ drop k rows) ≡ removed (used f n rows) i
+    → part ≡ retiring (take k rows) i → used f (n - 1) (part ++ drop k rows) ≡ removed (used f n rows) i
 used-retired f rows part n k i fits t h e =
     let front = take i (take n rows) ++ drop (i + 1) (take n rows) in
     let last = take 1 (drop i (take n rows)) in
     let inside : i < length (take n rows) = omega (arith, length-take-le n rows fits) in
     let was : part ≡ take i (take n rows) ++ (drop (i + 1) (take n rows) ++ last) =
-      e ∙ ap (λ m. retiring (take m rows) i) t ∙ cond-true _ _ _ (lt-ltb i (length (take n rows)) inside) in
+    e ∙ ap (λ m. retiring (take m rows) i) t ∙ cond-true _ _ _ (lt-ltb i (length (take n rows)) inside) in
     let long : length front ≡ n - 1 = search (needs, places) in
     let split : part ++ drop k rows ≡ front ++ (last ++ drop k rows) =
-      ap (λ ys. ys ++ drop k rows) (was ∙ sym (append-assoc (take i (take n rows)) (drop (i + 1) (take n rows)) last)) ∙ append-assoc front last (drop k rows) in
+    ap (λ ys. ys ++ drop k rows) (was ∙ sym (append-assoc (take i (take n rows)) (drop (i + 1) (take n rows)) last)) ∙ append-assoc front last (drop k rows) in
     let cut : take (n - 1) (map f (part ++ drop k rows)) ≡ map f front =
-      ap (λ ys. take (n - 1) (map f ys)) split ∙ ap (take (n - 1)) (map-append f front (last ++ drop k rows))
-        ∙ take-at (map f front) (map f (last ++ drop k rows)) (n - 1) (length-map front f ∙ long) in
+    ap (λ ys. take (n - 1) (map f ys)) split ∙ ap (take (n - 1)) (map-append f front (last ++ drop k rows))
+    ∙ take-at (map f front) (map f (last ++ drop k rows)) (n - 1) (length-map front f ∙ long) in
     let parts : map f front ≡ take i (map f (take n rows)) ++ drop (i + 1) (map f (take n rows)) =
-      map-append f (take i (take n rows)) (drop (i + 1) (take n rows)) ∙ rw (take-map f i (take n rows), drop-map f (i + 1) (take n rows)) refl in
+    map-append f (take i (take n rows)) (drop (i + 1) (take n rows)) ∙ rw (take-map f i (take n rows), drop-map f (i + 1) (take n rows)) refl in
     cut ∙ parts ∙ rw (take-map f n rows, add-one) refl

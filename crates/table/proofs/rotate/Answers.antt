@@ -6,4 +6,4 @@ use Rattle.table.proofs.rotate.Needs as need
 pub returns : need.returns
 returns g c =
     retired (c .args .rows .now) (c .rotate-left .last .self) (c .args .i) (c .pre) (c .rotate-left .ensures .after)
-      ∙ sym (cond-true _ _ _ (lt-ltb _ _ (c .pre)))
+    ∙ sym (cond-true _ _ _ (lt-ltb _ _ (c .pre)))

@@ -13,5 +13,5 @@ use Rattle.handles.proofs.live.resize_row.Needs as need
 pub returns : need.returns
 returns c = λ d.
     map-set handleOf (c .args .rows .now) (c .args .i) (c .resize .last .self)
-      ∙ ap (set (map handleOf (c .args .rows .now)) (c .args .i))
-        (c .resize .ensures ∙ ap (λ (b : Blob). withLive (handleOf b) (cut (b .header + c .args .len) (bytesOf (b .live)))) (getD-default (c .args .rows .now) (c .args .i) (c .index-rows-i .result) d (c .pre .inside)))
+    ∙ ap (set (map handleOf (c .args .rows .now)) (c .args .i))
+    (c .resize .ensures ∙ ap (λ (b : Blob). withLive (handleOf b) (cut (b .header + c .args .len) (bytesOf (b .live)))) (getD-default (c .args .rows .now) (c .args .i) (c .index-rows-i .result) d (c .pre .inside)))

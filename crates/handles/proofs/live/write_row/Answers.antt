@@ -13,5 +13,5 @@ use Rattle.handles.proofs.live.write_row.Needs as need
 pub returns : need.returns
 returns c = λ d.
     map-set handleOf (c .args .rows .now) (c .args .i) (c .write .last .self)
-      ∙ ap (set (map handleOf (c .args .rows .now)) (c .args .i))
-        (c .write .ensures ∙ ap (λ (b : Blob). withLive (handleOf b) (written (bytesOf (b .live)) (b .header + c .args .offset) (c .args .bytes .now))) (getD-default (c .args .rows .now) (c .args .i) (c .index-rows-i .result) d (c .pre .inside)))
+    ∙ ap (set (map handleOf (c .args .rows .now)) (c .args .i))
+    (c .write .ensures ∙ ap (λ (b : Blob). withLive (handleOf b) (written (bytesOf (b .live)) (b .header + c .args .offset) (c .args .bytes .now))) (getD-default (c .args .rows .now) (c .args .i) (c .index-rows-i .result) d (c .pre .inside)))

@@ -16,5 +16,5 @@ returns c =
     record {
       end = omega arith;
       put = byte-then (c .args .area .now) (c .copy-from-slice .last .self) (nameOf n) (n .len) (c .args .at) (c .args .at + 1) (c .args .at + 1 + n .len) (omega arith) (omega arith) (omega arith) (c .copy-from-slice .ensures .after ∙ c .as-slice .ensures)
-        ∙ ap (λ b. take (c .args .at) (c .args .area .now) ++ ((b ∷ nameOf n) ++ drop (c .args .at + 1 + n .len) (c .args .area .now))) (sym long);
+          ∙ ap (λ b. take (c .args .at) (c .args .area .now) ++ ((b ∷ nameOf n) ++ drop (c .args .at + 1 + n .len) (c .args .area .now))) (sym long);
     }

@@ -6,5 +6,5 @@ use Rattle.name.proofs.names.same.Needs as need
 pub returns : need.returns
 returns c =
     same-from-decides (c .eq .result) (sameBytes (c .args .a .now) (c .args .b .now))
-      (matches-decides (c .args .a .now) (c .args .b .now) (c .eq .result) (c .eq .ensures))
-      (sameBytes-decides (c .args .a .now) (c .args .b .now))
+    (matches-decides (c .args .a .now) (c .args .b .now) (c .eq .result) (c .eq .ensures))
+    (sameBytes-decides (c .args .a .now) (c .args .b .now))

@@ -10,10 +10,10 @@ loop-i-holds c = find-none handleOf (numbered (c .args .number)) (c .args .self 
 
 pub returns-then-self-i : need.returns-then-self-i
 returns-then-self-i c = record {
-      place = find-here handleOf (numbered (c .args .number)) (c .args .self .now .rows) (c .args .self .now .count) (omega arith)
-        (c .loop-i .i) (c .index-self-i .result) (c .loop-i-test .taken) (c .index-self-i .is) (eq-eqb _ _ (cc)) (c .loop-i .inv);
-      inside = c .loop-i-test .taken;
-    }
+  place = find-here handleOf (numbered (c .args .number)) (c .args .self .now .rows) (c .args .self .now .count) (omega arith)
+      (c .loop-i .i) (c .index-self-i .result) (c .loop-i-test .taken) (c .index-self-i .is) (eq-eqb _ _ (cc)) (c .loop-i .inv);
+  inside = c .loop-i-test .taken;
+}
 
 pub loop-i-again : need.loop-i-again
 loop-i-again c =
@@ -22,7 +22,7 @@ loop-i-again c =
 
 pub returns : need.returns
 returns c = record {
-      place = find-all handleOf (numbered (c .args .number)) (c .args .self .now .rows) (c .args .self .now .count) (omega arith)
-        (c .loop-i .i) (c .loop-i-test .left) (c .loop-i .kept .i-end) (c .loop-i .inv);
-      inside = tt;
-    }
+  place = find-all handleOf (numbered (c .args .number)) (c .args .self .now .rows) (c .args .self .now .count) (omega arith)
+      (c .loop-i .i) (c .loop-i-test .left) (c .loop-i .kept .i-end) (c .loop-i .inv);
+  inside = tt;
+}

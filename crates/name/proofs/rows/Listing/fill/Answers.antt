@@ -24,17 +24,18 @@ loop-i-again c =
     let i = c .loop-i .i in
     let long : length n ≤ 16 = omega (arith, length-take-le (c .index-self-i .result .len) (c .index-self-i .result .bytes) (omega arith)) in
     let more : listing (take (i + 1) (namesOf l)) ≡ listing (take i (namesOf l)) ++ entry n =
-      listing-more (namesOf l) i n (omega (arith, used-length nameOf (l .names) (l .count) (omega arith)))
-        (sym (used-at nameOf (l .names) (l .count) (omega arith) i (c .index-self-i .result) n (c .loop-i-test .taken) (c .index-self-i .is))) in
+    listing-more (namesOf l) i n (omega (arith, used-length nameOf (l .names) (l .count) (omega arith)))
+    (sym (used-at nameOf (l .names) (l .count) (omega arith) i (c .index-self-i .result) n (c .loop-i-test .taken) (c .index-self-i .is))) in
     let end : c .put-at .result ≡ c .loop-i .at + length (entry n) =
-      c .put-at .ensures .end ∙ ap (λ (r : Name). c .loop-i .at + length (entry (nameOf r))) (sym (c .index-self-i .is)) in
-    ( first-more (listing (take i (namesOf l))) (entry n) (c .args .area .now) (c .loop-i .area) (c .put-at .last .area) (c .loop-i .at) (c .loop-i .inv .1) (c .loop-i .inv .0)
-        (c .put-at .ensures .put
+    c .put-at .ensures .end ∙ ap (λ (r : Name). c .loop-i .at + length (entry (nameOf r))) (sym (c .index-self-i .is)) in (
+      first-more (listing (take i (namesOf l))) (entry n) (c .args .area .now) (c .loop-i .area) (c .put-at .last .area) (c .loop-i .at) (c .loop-i .inv .1) (c .loop-i .inv .0)
+          (c .put-at .ensures .put
           ∙ ap (λ (r : Name). take (c .loop-i .at) (c .loop-i .area) ++ (entry (nameOf r) ++ drop (c .put-at .result) (c .loop-i .area))) (sym (c .index-self-i .is))
           ∙ ap (λ k. take (c .loop-i .at) (c .loop-i .area) ++ (entry n ++ drop k (c .loop-i .area))) end)
-        ∙ ap (λ bs. first bs (c .args .area .now)) (sym more)
-    , end ∙ ap (λ k. k + length (entry n)) (c .loop-i .inv .1) ∙ sym (ap length more ∙ length-append (listing (take i (namesOf l))) (entry n))
-    , omega (arith, c .loop-i .inv .2) )
+          ∙ ap (λ bs. first bs (c .args .area .now)) (sym more),
+      end ∙ ap (λ k. k + length (entry n)) (c .loop-i .inv .1) ∙ sym (ap length more ∙ length-append (listing (take i (namesOf l))) (entry n)),
+      omega (arith, c .loop-i .inv .2),
+    )
 
 pub returns : need.returns
 returns c =

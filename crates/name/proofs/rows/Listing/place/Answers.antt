@@ -27,5 +27,5 @@ returns c =
     let long : length (c .pass-last .last .names) ≡ l .count = search (needs, places) in
     let zero : l .count - 0 ≡ l .count = omega arith in
     used-push nameOf (l .names) (c .pass-last .last .names) (l .count) (l .count - 0) (c .pass-last .result) long (omega arith) zero
-      ∙ c .pass-last .ensures
-      ∙ ap (placed (nameOf (c .args .name))) (ap (λ n. map nameOf (take n (l .names))) zero ∙ sym (take-map nameOf (l .count) (l .names)))
+    ∙ c .pass-last .ensures
+    ∙ ap (placed (nameOf (c .args .name))) (ap (λ n. map nameOf (take n (l .names))) zero ∙ sym (take-map nameOf (l .count) (l .names)))

@@ -15,7 +15,7 @@ returns-in-Break-generation g c =
     record {
       answer = p .1 ∙ ap Err (p .2) ∙ refusal;
       state = ap (λ v. diskOver v (s .handles) (s .generations)) (c .in-Break-generation .ensures tt .state)
-        ∙ open-stays m (c .args .partition .now) (c .args .name .now) (c .args .header .now) f refusal;
+          ∙ open-stays m (c .args .partition .now) (c .args .name .now) (c .args .header .now) f refusal;
     }
 
 pub returns-in-Break-number : need.returns-in-Break-number
