@@ -4,7 +4,7 @@ ghost use mathlib.Core.List.{[]};
 ghost use Prim.Native.Nat.{ℕ, _+_, _<_};
 ghost use lib.ListN.{length};
 ghost use Rattle.std.specs.Options.{mapped};
-ghost use Rattle.std.specs.Slices.{found};
+ghost use Rattle.std.specs.Options.{Cases as BySome};
 ghost use Rattle.std.specs.declared.option.Option.the-variants.{Some, None};
 ghost use Rattle.std.specs.declared.result.Result.the-variants.{Ok, Err};
 ghost use Rattle.fault.specs.declared.Fault.the-variants.{TableFull};
@@ -43,7 +43,7 @@ impl Handles {
     pub fn reset(&mut self)
         ensures { λ _. ⌜ handlesOf (now (self .exit)) ≡ [] ⌝ ∗ ⌜ now (self .exit) .issued ≡ 0 ⌝ }
     {
-        self.count = 0;
+        self.restart();
         self.issued = 0;
     }
 
@@ -54,17 +54,10 @@ impl Handles {
         self.count = 0;
     }
 
-    /// How many handles were issued.
-    pub fn issued(&self) -> u64
-        ensures { λ r. ⌜ r ≡ now (self .entry) .issued ⌝ }
-    {
-        self.issued
-    }
-
     /// The place of a handle.
     pub(crate) fn find(&self, number: u64) -> Option<usize>
         ensures place { λ r. ⌜ r ≡ position (numbered number) (handlesOf (now (self .entry))) ⌝ }
-        ensures inside { λ r. ⌜ found r (λ i. i < now (self .entry) .count) ⌝ }
+        ensures inside { λ r. ⌜ BySome r (handleAt (handlesOf (now (self .entry))) number ≡ None) (λ i. i < now (self .entry) .count) ⌝ }
     {
         for i in 0..self.count {
             if self.rows[i].number == number {
@@ -78,12 +71,23 @@ impl Handles {
     pub fn get(&self, number: u64) -> Option<&Blob>
         ensures { λ r. ⌜ mapped (λ b. handleOf (now b)) r ≡ handleAt (handlesOf (now (self .entry))) number ⌝ }
     {
-        let i = self.find(number)?;
-        Some(&self.rows[i])
+        match self.find(number) {
+            Some(i) => Some(self.row(number, i)),
+            None => None,
+        }
+    }
+
+    /// The handle of a number, by its place.
+    fn row(&self, number: u64, i: usize) -> &Blob
+        requires place { ⌜ position (numbered number) (handlesOf (now self)) ≡ Some i ⌝ }
+        requires inside { ⌜ i < now self .count ⌝ }
+        ensures { λ r. ⌜ handleAt (handlesOf (now (self .entry))) number ≡ Some (handleOf (now r)) ⌝ }
+    {
+        &self.rows[i]
     }
 
     /// How many handles are held.
-    pub fn len(&self) -> usize
+    fn len(&self) -> usize
         ensures { λ r. ⌜ r ≡ length (handlesOf (now (self .entry))) ⌝ }
     {
         self.count

@@ -34,7 +34,7 @@ impl Listing {
         }
     }
 
-    pub fn len(&self) -> usize
+    fn len(&self) -> usize
         ensures { λ r. ⌜ r ≡ length (namesOf (now (self .entry))) ⌝ }
     {
         self.count

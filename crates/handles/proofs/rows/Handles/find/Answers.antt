@@ -3,6 +3,7 @@ use Rattle.std.proofs.shelf.Tests.{eq-eqb, ne-eqb}
 use Rattle.table.proofs.Finds.{find-none, find-here, find-more, find-all}
 use Rattle.store.specs.Live.{numbered}
 use Rattle.handles.specs.Opened.{handleOf}
+use Rattle.handles.proofs.Tables.{no-row}
 use Rattle.handles.proofs.rows.Handles.find.Needs as need
 
 pub loop-i-holds : need.loop-i-holds
@@ -21,8 +22,7 @@ loop-i-again c =
     (c .loop-i .i) (c .index-self-i .result) (c .loop-i-test .taken) (c .index-self-i .is) (ne-eqb _ _ (λ e. c .if-self-i .left (cc e))) (c .loop-i .inv)
 
 pub returns : need.returns
-returns c = record {
-  place = find-all handleOf (numbered (c .args .number)) (c .args .self .now .rows) (c .args .self .now .count) (omega arith)
-      (c .loop-i .i) (c .loop-i-test .left) (c .loop-i .kept .i-end) (c .loop-i .inv);
-  inside = tt;
-}
+returns c =
+    let none = find-all handleOf (numbered (c .args .number)) (c .args .self .now .rows) (c .args .self .now .count) (omega arith)
+    (c .loop-i .i) (c .loop-i-test .left) (c .loop-i .kept .i-end) (c .loop-i .inv) in
+    record { place = none; inside = no-row (c .args .self .now) (c .args .number) none }
