@@ -6,6 +6,17 @@ use Rattle.steps.specs.Cases.{Cases-hold}
 pub cases : Cases-hold
 unfolding written cut
 cases = record {
-    one = refl; one-unset = refl; two = refl; three = refl; four = refl; five = refl; six = refl; seven = refl; seven-told = refl;
-    eight = refl; nine = refl; ten = refl; ten-area = refl;
-  }
+  one = refl;
+  one-unset = refl;
+  two = refl;
+  three = refl;
+  four = refl;
+  five = refl;
+  six = refl;
+  seven = refl;
+  seven-told = refl;
+  eight = refl;
+  nine = refl;
+  ten = refl;
+  ten-area = refl;
+}

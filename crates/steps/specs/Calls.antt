@@ -76,13 +76,19 @@ step b (Look p n start len) area = within Counted area start (below b (lookStep 
 step b Crash area = shown Told area (below b (crashStep (b .under)))
 step b Restart area = shown Told area (restartCall b)
 
--- What a list of calls comes to: the answers in order, the area, the words taken and the bench.
-abbrev pub runFrom : Bench → List ℕ → List Call → Outcome Bench (List Reply)
+-- A call's answer and how many words it took.
+pub record Turn : Type 0 where
+  pub reply : Reply
+  pub words : ℕ
+
+-- What a list of calls comes to: the turns in order, the area, the words taken in all and the bench.
+abbrev pub runFrom : Bench → List ℕ → List Call → Outcome Bench (List Turn)
 runFrom b area [] = record { answer = []; area = area; taken = 0; next = b }
 runFrom b area (c ∷ cs) =
     let o = step b c area in
     let more = runFrom (o .next) (o .area) cs in
-    record { answer = o .answer ∷ more .answer; area = more .area; taken = o .taken + more .taken; next = more .next }
+    record { answer = record { reply = o .answer; words = o .taken } ∷ more .answer; area = more .area; taken = o .taken + more .taken; next = more .next }
 
-abbrev pub run : Words → List ℕ → List Call → Outcome Bench (List Reply)
+-- on a fresh bench
+abbrev pub run : Words → List ℕ → List Call → Outcome Bench (List Turn)
 run w area cs = runFrom (fresh w) area cs

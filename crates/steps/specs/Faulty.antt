@@ -1,10 +1,9 @@
 -- The steps of the injection layer.
-use Prim.Native.Nat.{ℕ, suc, _+_, _-_, _^_, _<_, max, min}
+use Prim.Native.Nat.{ℕ, suc, _+_, _-_, _^_, max, min}
 use mathlib.Core.Bool.{Bool, true, false, cond, _&&_, _||_, not}
-use mathlib.Core.List.{List, [], _∷_, _++_, map}
+use mathlib.Core.List.{List, [], _∷_, _++_}
 use lib.Dec.{eqb, leb, ltb}
-use lib.ListN.{length, take, drop}
-use Rattle.std.specs.shelf.Lists.{kept-by}
+use lib.ListN.{length}
 use Rattle.std.specs.declared.option.Option.{Option}
 use Rattle.std.specs.declared.option.Option.the-variants.{Some, None}
 use Rattle.std.specs.declared.result.Result.{Result}
@@ -12,8 +11,8 @@ use Rattle.std.specs.declared.result.Result.the-variants.{Ok, Err}
 use Rattle.fault.specs.declared.Op.{Op}
 use Rattle.fault.specs.declared.Op.the-variants.{Open, Read, Write, Sync, Resize, Remove, Scan}
 use Rattle.fault.specs.declared.Fault.{Fault}
-use Rattle.fault.specs.declared.Fault.the-variants.{NoHandle, NoTicket, WriteOverflow, BadRate, TicketsFull, LogFull, Injected}
-use Rattle.draw.specs.Words.{Words, after, rolled, rollTaken, picked, pickTaken}
+use Rattle.fault.specs.declared.Fault.the-variants.{NoTicket, WriteOverflow, BadRate, TicketsFull, LogFull, Injected}
+use Rattle.draw.specs.Words.{after, rolled, rollTaken, picked, pickTaken}
 use Rattle.draw.specs.Selections.{selected, selectTaken}
 use Rattle.content.specs.Patches.{Patch, patch}
 use Rattle.table.specs.Tables.{found, amended, without}
@@ -22,7 +21,7 @@ use Rattle.store.specs.Live.{generationOf, heldFault, writeFault, resizeFault, 
 use Rattle.store.specs.Durable.{removeFault, removeAnswer, removed, removePartitionFault, removePartitionAnswer, removedPartition, generationAt, generationsIn, scanFault, scanAnswer, scanLeaves, lookAnswer, lookLeaves}
 use Rattle.store.specs.Whole.{openFault, openAnswer, opened, writeAnswer, wrote, resizeAnswer, resized, syncAnswer, synced, closeAnswer, closedDisk, restarted}
 use Rattle.steps.specs.Log.{Entry, Wrote, Resized, Marked, logFull, recorded, whole, fixed, dropped, droppedAll, settled, replayed}
-use Rattle.steps.specs.State.{WriteRates, ResizeRates, Rates, rateOf, writeFailure, retention, Size, Ticket, Faulty, Outcome, least, withWords, changed}
+use Rattle.steps.specs.State.{WriteRates, ResizeRates, Rates, rateOf, writeFailure, retention, Size, Faulty, Outcome, least, withWords, changed}
 
 -- a refusal before any draw alters nothing
 abbrev pub turned : {A : Type 0} → Option Fault → Faulty → List ℕ → Outcome Faulty (Result A Fault) → Outcome Faulty (Result A Fault)
@@ -66,7 +65,7 @@ openStep b p n header =
     let rate = rateOf (b .rates .opens) in
     let a = openAnswer (b .store) p n header in
     turned (openFault (b .store) p n header) b []
-      (rolling rate Open b [] (done a [] (rollTaken rate) (changed b (opened (b .store) p n header) (b .log) (sizesWith (b .sizes) a))))
+    (rolling rate Open b [] (done a [] (rollTaken rate) (changed b (opened (b .store) p n header) (b .log) (sizesWith (b .sizes) a))))
 
 abbrev pub generationsOf : Option ℕ → List ℕ
 generationsOf None = []
@@ -79,8 +78,8 @@ removeStep b p n =
     let v = b .store .volume in
     let a = removeAnswer v p n in
     turned (removeFault p n) b []
-      (rolling rate Remove b []
-        (done a [] (rollTaken rate) (changed b (withVolume (b .store) (removed v p n)) (whenOk a (droppedAll (b .log) (generationsOf (generationAt v p n))) (b .log)) (b .sizes))))
+    (rolling rate Remove b []
+    (done a [] (rollTaken rate) (changed b (withVolume (b .store) (removed v p n)) (whenOk a (droppedAll (b .log) (generationsOf (generationAt v p n))) (b .log)) (b .sizes))))
 
 abbrev pub removePartitionStep : Faulty → List ℕ → Outcome Faulty Done
 removePartitionStep b p =
@@ -88,15 +87,15 @@ removePartitionStep b p =
     let v = b .store .volume in
     let a = removePartitionAnswer v p in
     turned (removePartitionFault p) b []
-      (rolling rate Remove b []
-        (done a [] (rollTaken rate) (changed b (withVolume (b .store) (removedPartition v p)) (whenOk a (droppedAll (b .log) (generationsIn v p)) (b .log)) (b .sizes))))
+    (rolling rate Remove b []
+    (done a [] (rollTaken rate) (changed b (withVolume (b .store) (removedPartition v p)) (whenOk a (droppedAll (b .log) (generationsIn v p)) (b .log)) (b .sizes))))
 
 -- a scan rolls, then calls the store
 abbrev pub scanStep : Faulty → List ℕ → List ℕ → Outcome Faulty (Result ℕ Fault)
 scanStep b p area =
     let rate = rateOf (b .rates .scans) in
     turned (scanFault p (length area)) b area
-      (rolling rate Scan b area (done (scanAnswer (b .store .volume) p (length area)) (scanLeaves (b .store .volume) p area) (rollTaken rate) b))
+    (rolling rate Scan b area (done (scanAnswer (b .store .volume) p (length area)) (scanLeaves (b .store .volume) p area) (rollTaken rate) b))
 
 -- a look takes no word
 abbrev pub lookStep : Faulty → List ℕ → List ℕ → List ℕ → Outcome Faulty (Result ℕ Fault)
@@ -107,7 +106,7 @@ abbrev pub readStep : Faulty → ℕ → ℕ → List ℕ → Outcome Faulty Don
 readStep b h offset area =
     let rate = rateOf (b .rates .reads) in
     turned (heldFault (b .store .handles) h) b area
-      (rolling rate Read b area (done (readAnswer (b .store .handles) h offset (length area)) (readArea (b .store .handles) h offset area) (rollTaken rate) b))
+    (rolling rate Read b area (done (readAnswer (b .store .handles) h offset (length area)) (readArea (b .store .handles) h offset area) (rollTaken rate) b))
 
 -- size tells the size of a handle
 abbrev pub sizeStep : Faulty → ℕ → Outcome Faulty (Result ℕ Fault)
@@ -143,34 +142,34 @@ runs o [] = []
 runs o (None ∷ os) = runs (suc o) os
 runs o (Some x ∷ os) = joinRun o x (runs (suc o) os)
 
--- What the runs of a failing write come to: a store fault that stopped them, the store, the sizes, and how far they came.
+-- What the runs of a failing write come to: a store fault that stopped them, the store and the sizes.
 pub record Ran : Type 0 where
   pub fault : Option Fault
   pub store : Disk
   pub sizes : List Size
-  pub reach : ℕ
+
+-- after a store fault the live change stays and the size does not move
+abbrev pub ranOn : Done → Disk → List Size → List Size → (Disk → List Size → Ran) → Ran
+ranOn (Ok _) m new old more = more m new
+ranOn (Err f) m new old more = record { fault = Some f; store = m; sizes = old }
 
 -- each run in order is a SYNC write of the store; a store fault stops them
-abbrev pub ranOn : Done → Disk → List Size → List Size → ℕ → ℕ → (Disk → List Size → ℕ → Ran) → Ran
-ranOn (Ok _) m new old end reach more = more m new end
-ranOn (Err f) m new old end reach more = record { fault = Some f; store = m; sizes = old; reach = reach }
+abbrev pub ran : List (ℕ × List ℕ) → ℕ → Disk → List Size → Ran
+ran [] h m ss = record { fault = None; store = m; sizes = ss }
+ran (r ∷ rs) h m ss =
+    ranOn (writeAnswer m h (r .0) (r .1) true) (wrote m h (r .0) (r .1) true) (grown ss h (r .0 + length (r .1))) ss (ran rs h)
 
-abbrev pub ran : List (ℕ × List ℕ) → ℕ → Disk → List Size → ℕ → Ran
-ran [] h m ss reach = record { fault = None; store = m; sizes = ss; reach = reach }
-ran (r ∷ rs) h m ss reach =
-    let end = r .0 + length (r .1) in
-    ranOn (writeAnswer m h (r .0) (r .1) true) (wrote m h (r .0) (r .1) true) (grown ss h end) ss end reach (ran rs h)
-
--- A failing write with retention draws a selection; its runs become durable and are fixed, as one entry if any is appended.
+-- A failing write with retention draws a selection, and its runs become durable. They are fixed together, as one entry if
+-- any is appended; after a store fault, which only the first run can meet, nothing is fixed.
 abbrev pub failingWrite : Faulty → WriteRates → ℕ → ℕ → List ℕ → ℕ → Outcome Faulty Done
 failingWrite b w h offset bs n =
     let words = after n (b .words) in
     let chosen = patch bs (selected (w .mode) (w .retention) (length bs) words) in
-    let end = ran (runs offset chosen) h (b .store) (b .sizes) offset in
+    let end = ran (runs offset chosen) h (b .store) (b .sizes) in
     done (whenSome (end .fault) Err (Err (Injected Write))) [] (n + selectTaken (w .mode) (w .retention) (length bs) words)
-      (changed b (end .store) (logFor b h (λ g. fixed (b .log) g offset (take (end .reach - offset) chosen))) (end .sizes))
+    (changed b (end .store) (whenSome (end .fault) (λ _. b .log) (logFor b h (λ g. fixed (b .log) g offset chosen))) (end .sizes))
 
--- a write that is kept pending, if retention is set and it is not empty
+-- a write that is kept pending, if retention is set and it is not empty, as only a plain write can be
 abbrev pub recording : Faulty → ℕ → ℕ → List ℕ → List Entry
 recording b h offset bs =
     whenSome (retention (b .rates)) (λ w. cond (isEmpty bs) (b .log) (logFor b h (λ g. recorded (b .log) (Wrote g offset (whole bs) (w .mode) (w .retention))))) (b .log)
@@ -180,7 +179,7 @@ abbrev pub writing : Faulty → ℕ → ℕ → List ℕ → Bool → List Entry
 writing b h offset bs sync es ok n =
     let a = writeAnswer (b .store) h offset bs sync in
     done (whenOk a ok a) [] n
-      (changed b (wrote (b .store) h offset bs sync) (whenOk a es (b .log)) (whenOk a (grown (b .sizes) h (offset + length bs)) (b .sizes)))
+    (changed b (wrote (b .store) h offset bs sync) (whenOk a es (b .log)) (whenOk a (grown (b .sizes) h (offset + length bs)) (b .sizes)))
 
 -- after its failure roll said no, a SYNC write rolls sync
 abbrev pub goodWrite : Faulty → ℕ → ℕ → List ℕ → Bool → ℕ → Outcome Faulty Done
@@ -189,28 +188,28 @@ goodWrite b h offset bs true n =
     let rate = rateOf (b .rates .syncs) in
     let words = after n (b .words) in
     cond (rolled rate words)
-      (writing b h offset bs false (recording b h offset bs) (Err (Injected Sync)) (n + rollTaken rate))
-      (writing b h offset bs true (logFor b h (λ g. fixed (b .log) g offset (whole bs))) (Ok tt) (n + rollTaken rate))
+    (writing b h offset bs false (recording b h offset bs) (Err (Injected Sync)) (n + rollTaken rate))
+    (writing b h offset bs true (logFor b h (λ g. fixed (b .log) g offset (whole bs))) (Ok tt) (n + rollTaken rate))
 
 -- an empty SYNC write succeeds after the handle check alone
 abbrev pub writeStep : Faulty → ℕ → ℕ → List ℕ → Bool → Outcome Faulty Done
 writeStep b h offset bs sync =
     let rate = writeFailure (b .rates) in
     cond (sync && isEmpty bs)
-      (done (refused (heldFault (b .store .handles) h) (Ok tt)) [] 0 b)
-      (turned (writeRefusal b h offset bs) b []
-        (cond (rolled rate (b .words))
-          (whenSome (retention (b .rates)) (λ w. failingWrite b w h offset bs (rollTaken rate)) (struck Write b [] (rollTaken rate)))
-          (goodWrite b h offset bs sync (rollTaken rate))))
+    (done (refused (heldFault (b .store .handles) h) (Ok tt)) [] 0 b)
+    (turned (writeRefusal b h offset bs) b []
+    (cond (rolled rate (b .words))
+    (whenSome (retention (b .rates)) (λ w. failingWrite b w h offset bs (rollTaken rate)) (struck Write b [] (rollTaken rate)))
+    (goodWrite b h offset bs sync (rollTaken rate))))
 
 -- a resize of the store, which may be recorded: a fault ends it
 abbrev pub resizing : Faulty → ℕ → ℕ → Bool → Done → ℕ → Outcome Faulty Done
 resizing b h len records ok n =
     let a = resizeAnswer (b .store) h len in
     done (whenOk a ok a) [] n
-      (changed b (resized (b .store) h len)
-        (whenOk a (cond records (logFor b h (λ g. recorded (b .log) (Resized g len))) (b .log)) (b .log))
-        (whenOk a (sizedTo (b .sizes) h len) (b .sizes)))
+    (changed b (resized (b .store) h len)
+    (whenOk a (cond records (logFor b h (λ g. recorded (b .log) (Resized g len))) (b .log)) (b .log))
+    (whenOk a (sizedTo (b .sizes) h len) (b .sizes)))
 
 -- a failing resize rolls partial; on yes, with current size and wanted length more than 1 apart, it goes to a length between
 abbrev pub failingResize : Faulty → ResizeRates → ℕ → ℕ → ℕ → Outcome Faulty Done
@@ -221,19 +220,19 @@ failingResize b r h len n =
     let high = max (sizeIn (b .sizes) h) len in
     let span = high - low - 1 in
     cond (rolled (r .partial) words && ltb 1 (high - low))
-      (resizing b h (low + 1 + picked span (after (rollTaken (r .partial)) words)) true (Err (Injected Resize)) (m + pickTaken span))
-      (struck Resize b [] m)
+    (resizing b h (low + 1 + picked span (after (rollTaken (r .partial)) words)) true (Err (Injected Resize)) (m + pickTaken span))
+    (struck Resize b [] m)
 
 -- without set rates nothing is drawn; else failure is rolled, and on no once more: yes records the resize
 abbrev pub resizeStep : Faulty → ℕ → ℕ → Outcome Faulty Done
 resizeStep b h len =
     turned (least (resizeFault (b .store .handles) h len) (fullFault (b .log) true)) b []
-      (whenSome (b .rates .resizes)
-        (λ r.
-          let n = rollTaken (r .failure) in
-          cond (rolled (r .failure) (b .words)) (failingResize b r h len n)
-            (resizing b h len (rolled (r .failure) (after n (b .words))) (Ok tt) (n + n)))
-        (resizing b h len false (Ok tt) 0))
+    (whenSome (b .rates .resizes)
+    (λ r.
+    let n = rollTaken (r .failure) in
+    cond (rolled (r .failure) (b .words)) (failingResize b r h len n)
+    (resizing b h len (rolled (r .failure) (after n (b .words))) (Ok tt) (n + n)))
+    (resizing b h len false (Ok tt) 0))
 
 -- sync rolls, syncs, and then drops the generation's entries
 abbrev pub syncStep : Faulty → ℕ → Outcome Faulty Done
@@ -241,7 +240,7 @@ syncStep b h =
     let rate = rateOf (b .rates .syncs) in
     let a = syncAnswer (b .store) h in
     turned (heldFault (b .store .handles) h) b []
-      (rolling rate Sync b [] (done a [] (rollTaken rate) (changed b (synced (b .store) h) (whenOk a (logFor b h (dropped (b .log))) (b .log)) (b .sizes))))
+    (rolling rate Sync b [] (done a [] (rollTaken rate) (changed b (synced (b .store) h) (whenOk a (logFor b h (dropped (b .log))) (b .log)) (b .sizes))))
 
 -- no room for one more ticket, or no number left
 abbrev pub ticketLimit : ℕ
@@ -257,8 +256,13 @@ ticketsFault b = cond (leb ticketLimit (length (b .tickets)) || leb ticketIssues
 abbrev pub ticketed : Faulty → Done → Disk → List Entry → ℕ → Outcome Faulty (Result ℕ Fault)
 ticketed b a m es n =
     done (Ok (b .issued)) [] n (record {
-      store = m; words = b .words; log = es; rates = b .rates; sizes = b .sizes;
-      tickets = b .tickets ++ (record { number = b .issued; result = a } ∷ []); issued = b .issued + 1;
+      store = m;
+      words = b .words;
+      log = es;
+      rates = b .rates;
+      sizes = b .sizes;
+      tickets = b .tickets ++ (record { number = b .issued; result = a } ∷ []);
+      issued = b .issued + 1;
     })
 
 abbrev pub isOk : Done → Bool
@@ -272,42 +276,48 @@ startSyncStep b h =
     let rate = rateOf (b .rates .syncs) in
     let a = syncAnswer (b .store) h in
     turned (least (heldFault (b .store .handles) h) (least (ticketsFault b) (fullFault (b .log) true))) b []
-      (cond (rolled rate (b .words))
-        (ticketed b (Err (Injected Sync)) (b .store) (b .log) (rollTaken rate))
-        (ticketed b a (synced (b .store) h) (logFor b h (λ g. recorded (b .log) (Marked g (b .issued) (isOk a)))) (rollTaken rate)))
+    (cond (rolled rate (b .words))
+    (ticketed b (Err (Injected Sync)) (b .store) (b .log) (rollTaken rate))
+    (ticketed b a (synced (b .store) h) (logFor b h (λ g. recorded (b .log) (Marked g (b .issued) (isOk a)))) (rollTaken rate)))
 
 -- settle gives the ticket's result and ends it; its marker goes if it stands
 abbrev pub settleStep : Faulty → ℕ → Outcome Faulty Done
 settleStep b t =
     whenSome (found (λ k. eqb (k .number) t) (b .tickets))
-      (λ k. done (k .result) [] 0 (record {
-        store = b .store; words = b .words; log = settled (b .log) t; rates = b .rates; sizes = b .sizes;
-        tickets = without (λ x. eqb (x .number) t) (b .tickets); issued = b .issued;
-      }))
-      (done (Err NoTicket) [] 0 b)
+    (λ k. done (k .result) [] 0 (record {
+      store = b .store;
+      words = b .words;
+      log = settled (b .log) t;
+      rates = b .rates;
+      sizes = b .sizes;
+      tickets = without (λ x. eqb (x .number) t) (b .tickets);
+      issued = b .issued;
+    }))
+    (done (Err NoTicket) [] 0 b)
 
 -- close ends a handle
 abbrev pub closeStep : Faulty → ℕ → Outcome Faulty Done
 closeStep b h =
-    done (closeAnswer (b .store) h) [] 0 (changed b (closedDisk (b .store) h) (b .log) (without (isSize h) (b .sizes)))
+    turned (heldFault (b .store .handles) h) b []
+    (done (closeAnswer (b .store) h) [] 0 (changed b (closedDisk (b .store) h) (b .log) (without (isSize h) (b .sizes))))
 
 abbrev pub tooHigh : ℕ → Bool
 tooHigh r = ltb 65536 r
 
-abbrev pub high : Option ℕ → Bool
-high r = whenSome r tooHigh false
+abbrev pub setTooHigh : Option ℕ → Bool
+setTooHigh r = whenSome r tooHigh false
 
 -- a rate over 65,536
 abbrev pub badRates : Rates → Bool
 badRates r =
-    high (r .opens) || (high (r .reads) || (whenSome (r .writes) (λ w. tooHigh (w .failure) || tooHigh (w .retention)) false
-    || (high (r .syncs) || (whenSome (r .resizes) (λ z. tooHigh (z .failure) || tooHigh (z .partial)) false || (high (r .removes) || high (r .scans))))))
+    setTooHigh (r .opens) || (setTooHigh (r .reads) || (whenSome (r .writes) (λ w. tooHigh (w .failure) || tooHigh (w .retention)) false
+    || (setTooHigh (r .syncs) || (whenSome (r .resizes) (λ z. tooHigh (z .failure) || tooHigh (z .partial)) false || (setTooHigh (r .removes) || setTooHigh (r .scans))))))
 
 -- configure sets all rates
 abbrev pub configureStep : Faulty → Rates → Outcome Faulty Done
 configureStep b r =
     turned (cond (badRates r) (Some BadRate) None) b []
-      (done (Ok tt) [] 0 (record { store = b .store; words = b .words; log = b .log; rates = r; sizes = b .sizes; tickets = b .tickets; issued = b .issued }))
+    (done (Ok tt) [] 0 (record { store = b .store; words = b .words; log = b .log; rates = r; sizes = b .sizes; tickets = b .tickets; issued = b .issued }))
 
 -- a crash empties the log and replays it
 abbrev pub crashStep : Faulty → Outcome Faulty Done

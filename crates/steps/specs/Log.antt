@@ -5,12 +5,11 @@ use mathlib.Core.List.{List, [], _∷_, _++_}
 use lib.Dec.{eqb, leb}
 use lib.ListN.{length}
 use Rattle.std.specs.shelf.Lists.{kept-by}
-use Rattle.std.specs.declared.option.Option.{Option}
 use Rattle.std.specs.declared.option.Option.the-variants.{Some, None}
 use Rattle.draw.specs.Words.{Words, after}
 use Rattle.draw.specs.Selections.{selected, selectTaken}
 use Rattle.draw.specs.declared.select.PartialWriteMode.{PartialWriteMode}
-use Rattle.draw.specs.declared.select.PartialWriteMode.the-variants.{Prefix, Subset}
+use Rattle.draw.specs.declared.select.PartialWriteMode.the-variants.{Prefix}
 use Rattle.content.specs.Patches.{Patch}
 use Rattle.store.specs.Meaning.{Volume}
 use Rattle.store.specs.Durable.{crashWritten, crashResized}
@@ -61,14 +60,14 @@ idle (None ∷ os) = idle os
 idle (Some b ∷ os) = false
 
 -- A fixing makes the places of a written range no longer loose in every write of its generation; emptied writes leave.
-abbrev pub loosened : ℕ → (ℕ → Bool) → List Entry → List Entry
-loosened g hit [] = []
-loosened g hit (Wrote h o os m r ∷ es) =
+abbrev pub tightened : ℕ → (ℕ → Bool) → List Entry → List Entry
+tightened g hit [] = []
+tightened g hit (Wrote h o os m r ∷ es) =
     cond (eqb h g)
-    (cond (idle (cleared hit o os)) (loosened g hit es) (Wrote h o (cleared hit o os) m r ∷ loosened g hit es))
-    (Wrote h o os m r ∷ loosened g hit es)
-loosened g hit (Resized h len ∷ es) = Resized h len ∷ loosened g hit es
-loosened g hit (Marked h t s ∷ es) = Marked h t s ∷ loosened g hit es
+    (cond (idle (cleared hit o os)) (tightened g hit es) (Wrote h o (cleared hit o os) m r ∷ tightened g hit es))
+    (Wrote h o os m r ∷ tightened g hit es)
+tightened g hit (Resized h len ∷ es) = Resized h len ∷ tightened g hit es
+tightened g hit (Marked h t s ∷ es) = Marked h t s ∷ tightened g hit es
 
 abbrev pub resizes : ℕ → List Entry → Bool
 resizes g [] = false
@@ -76,11 +75,12 @@ resizes g (Wrote h o os m r ∷ es) = resizes g es
 resizes g (Resized h len ∷ es) = cond (eqb h g) true (resizes g es)
 resizes g (Marked h t s ∷ es) = resizes g es
 
--- and where a resize of that generation is in the log, the range is appended as a write that a crash keeps for certain
+-- And where a resize of that generation is anywhere in the log, before a marker too, the range is appended as a write that
+-- a crash keeps for certain. A range without a byte changes nothing.
 abbrev pub fixed : List Entry → ℕ → ℕ → Patch → List Entry
 fixed es g o f =
     cond (idle f) es
-    (loosened g (covers o f) es ++ cond (resizes g es) (Wrote g o f Prefix 65536 ∷ []) [])
+    (tightened g (covers o f) es ++ cond (resizes g es) (Wrote g o f Prefix 65536 ∷ []) [])
 
 -- all entries of a generation go
 abbrev pub dropped : List Entry → ℕ → List Entry
@@ -91,16 +91,22 @@ abbrev pub droppedAll : List Entry → List ℕ → List Entry
 droppedAll es [] = es
 droppedAll es (g ∷ gs) = droppedAll (dropped es g) gs
 
--- a settled ticket's marker goes, if it stands, and on success so do earlier entries of its generation
-abbrev pub settledFrom : List Entry → ℕ → List Entry → List Entry
-settledFrom before t [] = before
-settledFrom before t (Wrote g o os m r ∷ es) = settledFrom (before ++ (Wrote g o os m r ∷ [])) t es
-settledFrom before t (Resized g len ∷ es) = settledFrom (before ++ (Resized g len ∷ [])) t es
-settledFrom before t (Marked g u s ∷ es) =
-    cond (eqb u t) (cond s (dropped before g ++ es) (before ++ es)) (settledFrom (before ++ (Marked g u s ∷ [])) t es)
+-- a successful marker of a ticket and a generation stands in these
+abbrev pub retires : ℕ → ℕ → List Entry → Bool
+retires t g [] = false
+retires t g (Wrote h o os m r ∷ es) = retires t g es
+retires t g (Resized h len ∷ es) = retires t g es
+retires t g (Marked h u s ∷ es) = cond (eqb u t && (eqb h g && s)) true (retires t g es)
 
+abbrev pub isMarker : ℕ → Entry → Bool
+isMarker t (Wrote h o os m r) = false
+isMarker t (Resized h len) = false
+isMarker t (Marked h u s) = eqb u t
+
+-- a settled ticket's marker goes, if it stands, and on success so do earlier entries of its generation
 abbrev pub settled : List Entry → ℕ → List Entry
-settled es t = settledFrom [] t es
+settled [] t = []
+settled (e ∷ es) t = cond (isMarker t e) es (cond (retires t (generationIn e) es) (settled es t) (e ∷ settled es t))
 
 -- a successful marker of a generation stands in these
 abbrev pub marks : ℕ → List Entry → Bool
@@ -122,7 +128,7 @@ replayed [] v w = (v, 0)
 replayed (Wrote g o os m r ∷ es) v w =
     cond (marks g es) (replayed es v w)
     (let n = selectTaken m r (length os) w in
-      let more = replayed es (crashWritten v g o (kept (selected m r (length os) w) os)) (after n w) in
-      (more .0, n + more .1))
+    let more = replayed es (crashWritten v g o (kept (selected m r (length os) w) os)) (after n w) in
+    (more .0, n + more .1))
 replayed (Resized g len ∷ es) v w = cond (marks g es) (replayed es v w) (replayed es (crashResized v g len) w)
 replayed (Marked g t s ∷ es) v w = replayed es v w

@@ -31,8 +31,8 @@ abbrev pub registered : List Lease → List ℕ → List ℕ → Outcome Faulty 
 registered ls p n o (Err f) = lifted o ls
 registered ls p n o (Ok a) =
     cond (leased ls p n)
-      (record { answer = Err AlreadyOpen; area = o .area; taken = o .taken; next = record { under = closeStep (o .next) (a .0) .next; leases = ls } })
-      (lifted o (ls ++ (record { partition = p; name = n; handle = a .0 } ∷ [])))
+    (record { answer = Err AlreadyOpen; area = o .area; taken = o .taken; next = record { under = closeStep (o .next) (a .0) .next; leases = ls } })
+    (lifted o (ls ++ (record { partition = p; name = n; handle = a .0 } ∷ [])))
 
 abbrev pub openCall : Bench → List ℕ → List ℕ → List ℕ → Outcome Bench (Result (ℕ × ℕ) Fault)
 openCall b p n header = let o = openStep (b .under) p n header in registered (b .leases) p n o (o .answer)

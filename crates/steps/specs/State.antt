@@ -1,16 +1,14 @@
 -- The state of the bench, in two layers: the injection layer over a store and the words of a draw source, and the register
 -- above it.
 use Prim.Native.Nat.{ℕ}
-use mathlib.Core.Bool.{Bool, cond, not}
+use mathlib.Core.Bool.{cond}
 use mathlib.Core.List.{List, []}
-use lib.Dec.{eqb, leb, ltb}
+use lib.Dec.{eqb, ltb}
 use Rattle.std.specs.declared.option.Option.{Option}
 use Rattle.std.specs.declared.option.Option.the-variants.{Some, None}
-use Rattle.std.specs.declared.result.Result.{Result}
-use Rattle.std.specs.declared.result.Result.the-variants.{Ok, Err}
 use Rattle.fault.specs.Numbers.{number}
 use Rattle.fault.specs.declared.Fault.{Fault}
-use Rattle.draw.specs.Words.{Words, after}
+use Rattle.draw.specs.Words.{Words}
 use Rattle.draw.specs.declared.select.PartialWriteMode.{PartialWriteMode}
 use Rattle.store.specs.Meaning.{Disk, Done, emptyDisk, whenSome}
 use Rattle.steps.specs.Log.{Entry}
@@ -82,9 +80,9 @@ pub record Bench : Type 0 where
 -- a fresh bench over the words of a source
 abbrev pub fresh : Words → Bench
 fresh w = record {
-      under = record { store = emptyDisk; words = w; log = []; rates = unset; sizes = []; tickets = []; issued = 0 };
-      leases = [];
-    }
+  under = record { store = emptyDisk; words = w; log = []; rates = unset; sizes = []; tickets = []; issued = 0 };
+  leases = [];
+}
 
 -- What a call comes to: its answer, its area after it, how many words it took, and the state after it.
 pub record Outcome (S A : Type 0) : Type 0 where
