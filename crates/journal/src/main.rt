@@ -1,8 +1,10 @@
 //! A boot journal in a memory store: what each call answers, and the file that the medium keeps after a restart.
-use fault::Fault;
 use memory::medium::MemoryMedium;
 use memory::rows::Memory;
-use std::fmt;
+use shown::Hex;
+use shown::HexDisplay;
+use shown::Told;
+use shown::ToldDisplay;
 use std::io;
 use storage::calls::StorageStore;
 use storage::state::Storage;
@@ -13,39 +15,6 @@ const PARTITION: &[u8] = b"boot";
 const NAME: &[u8] = b"journal";
 
 const HEADER: &[u8] = b"BJ";
-
-/// Bytes in hexadecimal, `-` for none.
-#[derive(Clone, Copy)]
-struct Hex<'a>(&'a [u8]);
-
-impl<'a> fmt::Display for Hex<'a> as HexDisplay {
-    fn fmt<W: fmt::Write>(&self, f: &mut fmt::Formatter<W>) -> fmt::Result {
-        if self.0.is_empty() {
-            return f.write_str("-");
-        }
-        for b in self.0 {
-            write!(f, "{b:02x}")?;
-        }
-        Ok(())
-    }
-}
-
-/// `ok`, or `no` with the fault's number and layer.
-#[derive(Clone, Copy)]
-struct Told(Result<(), Fault>);
-
-impl fmt::Display for Told as ToldDisplay {
-    fn fmt<W: fmt::Write>(&self, f: &mut fmt::Formatter<W>) -> fmt::Result {
-        match self.0 {
-            Ok(()) => f.write_str("ok"),
-            Err(fault) => {
-                let number = fault.number();
-                let layer = fault.layer();
-                write!(f, "no {number} {layer}")
-            }
-        }
-    }
-}
 
 /// The durable bytes of the journal.
 fn print_file<S: Store>(rt: &LibcRuntime, store: &S) -> io::Result<()> {

@@ -1,5 +1,5 @@
 //! The lists of calls, each from a reset on.
-use crate::step::Step;
+use script::Step;
 
 /// The longest names of a partition and a file, the longest header and the longest write; each with one byte more.
 const P16: &[u8] = b"partition-16_ABz";

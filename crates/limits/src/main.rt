@@ -2,16 +2,14 @@
 //! `data/expected.py` made it.
 use memory::medium::MemoryMedium;
 use memory::rows::Memory;
+use script::Step;
+use script::make;
 use std::io;
-use step::Step;
-use step::make;
 use storage::calls::StorageStore;
 use storage::state::Storage;
 use store::Store;
 
 mod lists;
-mod shown;
-mod step;
 
 /// A title, and the calls of a list, one after another.
 fn run<S: Store>(

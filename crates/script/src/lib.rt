@@ -1,11 +1,11 @@
-//! One call on a store, and the line that tells its answer.
-use crate::shown::Flags;
-use crate::shown::FlagsDisplay;
-use crate::shown::Hex;
-use crate::shown::HexDisplay;
-use crate::shown::Told;
-use crate::shown::ToldDisplay;
+//! Calls on a store as values, and the line that tells the answer of each.
 use fault::Fault;
+use shown::Flags;
+use shown::FlagsDisplay;
+use shown::Hex;
+use shown::HexDisplay;
+use shown::Told;
+use shown::ToldDisplay;
 use std::io;
 use store::Store;
 
