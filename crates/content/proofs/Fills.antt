@@ -1,8 +1,8 @@
 -- What a zero fill and a copy in a row of bytes leave of its content.
-use Rattle.std.proofs.Common.{◌≡◌, ℕ, ◌+◌, ◌-◌, ◌<◌, ◌≤◌, max, List, ◌++◌, length, get_or, take, drop, replicate, sym, refl, ap, ◌∙◌, arith, rules}
+use Rattle.std.proofs.Common.{◌≡◌, ℕ, ◌+◌, ◌-◌, ◌<◌, ◌≤◌, max, List, ◌++◌, length, take, drop, replicate, sym, arith, rules}
 use borrow.Rule.Slice.PartMut.{put_mid}
 use Rattle.std.proofs.lemmas.List.{same_lists, places, drop-drop, take-append-drop}
-use Rattle.content.specs.Bytes.{written, cut, zeroed, filled}
+use Rattle.content.specs.Bytes.{written, cut, zeroed}
 
 pub zero-some : (xs zs : List ℕ) (from to : ℕ) → from < to → zs ≡ replicate (to - from) 0 → put_mid from (to - from) xs zs ≡ zeroed xs from to
 unfolding zeroed

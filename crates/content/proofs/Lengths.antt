@@ -1,5 +1,5 @@
 -- How long a content is after a change.
-use Rattle.std.proofs.Common.{◌≡◌, ℕ, suc, ◌+◌, ◌≤◌, max, List, [], ◌∷◌, length, Some, None, sym, refl, ap, ◌∙◌, arith, rules}
+use Rattle.std.proofs.Common.{◌≡◌, ℕ, suc, ◌+◌, ◌≤◌, max, List, [], ◌∷◌, length, Some, None, arith, rules}
 use Rattle.std.proofs.lemmas.List.{places}
 use Rattle.content.specs.Bytes.{written, cut}
 use Rattle.content.specs.Patches.{Patch, lay}

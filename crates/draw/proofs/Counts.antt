@@ -1,5 +1,5 @@
 -- Words taken and words left.
-use Rattle.std.proofs.Common.{◌≡◌, ℕ, zero, suc, ◌+◌, ◌%◌, ◌<◌, false, eqb, ◌∙◌, mod-lt, suc-add, zero-add, arith}
+use Rattle.std.proofs.Common.{◌≡◌, ℕ, zero, suc, ◌+◌, ◌<◌, false, eqb, ◌∙◌, mod-lt, suc-add, zero-add, arith}
 use Rattle.std.proofs.lemmas.Bool.{ne_eqb}
 use Rattle.draw.specs.Words.{Words, after, rest, picked}
 

@@ -1,4 +1,6 @@
 //! What a call answers where it does not succeed: a fault, which has a number, a layer and sometimes a detail.
+#![tactic(auto)]
+
 ghost use Rattle.std.specs.Prelude.{◌≡◌};
 ghost use Rattle.fault.specs.Numbers.{operation, number, layer, detail};
 

@@ -1,14 +1,11 @@
 -- The rows of a table of handles.
-use Rattle.std.proofs.Common.{◌≡◌, ℕ, ◌<◌, ◌≤◌, false, leb, List, [], length, replicate, Some, None, Option, sym, refl, ap, ◌∙◌, arith}
+use Rattle.std.proofs.Common.{◌≡◌, ℕ, ◌<◌, false, leb, length, replicate, Some, None, sym, arith}
 use Rattle.std.proofs.lemmas.List.{length-replicate}
 use Rattle.std.proofs.lemmas.Bool.{leb-false, or_parts}
 use Rattle.table.proofs.Uses.{used-length}
 use Rattle.table.specs.Tables.{position}
-use Rattle.table.proofs.Finds.{Here, here, position_some, position-none, without-none}
-use Rattle.fault.specs.declared.Fault.{Fault}
-use Rattle.fault.specs.declared.Fault.TheVariants.{NoHandle}
-use Rattle.store.specs.Meaning.{Handle, when_some}
-use Rattle.store.specs.Live.{handles_full, handle_at, numbered, held_fault, closed}
+use Rattle.table.proofs.Finds.{Here, here, position-none, without-none}
+use Rattle.store.specs.Live.{handles_full, handle_at, numbered, closed}
 use Rattle.handles.specs.Opened.{handle_of, handles_of}
 use Rattle.handles.specs.declared.rows.Blob.{Blob}
 use Rattle.handles.specs.declared.rows.Handles.{Handles}

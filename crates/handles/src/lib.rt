@@ -1,4 +1,6 @@
 //! Open handles, each with live bytes of its own: the half of a store that a restart ends.
+#![tactic(auto)]
+
 pub mod blob;
 pub mod limits;
 pub mod live;

@@ -1,4 +1,4 @@
-ghost use Rattle.std.specs.Prelude.{◌≡◌, ◌+◌, leb, if◌then◌else◌, Some, None, nat_le, nat_lt};
+ghost use Rattle.std.specs.Prelude.{◌≡◌, ◌+◌, if◌then◌else◌, Some, None, nat_le, nat_lt};
 ghost use Rattle.fault.specs.declared.Fault.TheVariants.{TooLong, NoSpace};
 ghost use Rattle.content.specs.Bytes.{limit};
 ghost use Rattle.store.specs.Live.{write_limit};
@@ -25,7 +25,7 @@ pub fn has_space(offset: u64, len: usize, header: usize) -> bool
 
 /// Which limit a write of a length at an offset passes.
 pub fn write_fault(offset: u64, len: usize, header: usize) -> Option<Fault>
-    ensures { result ≡ (if nat_lt write_limit len then Some TooLong else (if leb (offset + len + header) limit then None else Some NoSpace)) }
+    ensures { result ≡ (if nat_lt write_limit len then Some TooLong else (if nat_le (offset + len + header) limit then None else Some NoSpace)) }
 {
     if len > WRITE_LIMIT {
         return Some(Fault::TooLong);
@@ -39,7 +39,7 @@ pub fn write_fault(offset: u64, len: usize, header: usize) -> Option<Fault>
 
 /// Which limit a resize passes.
 pub fn resize_fault(len: u64, header: usize) -> Option<Fault>
-    ensures { result ≡ (if leb (len + header) limit then None else Some NoSpace) }
+    ensures { result ≡ (if nat_le (len + header) limit then None else Some NoSpace) }
 {
     if len <= LIMIT as u64 && header <= LIMIT - len as usize {
         None

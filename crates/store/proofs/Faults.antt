@@ -1,7 +1,6 @@
 -- What follows where a question answers no fault.
 use Rattle.std.proofs.Common.{◌≡◌, ℕ, ◌+◌, ◌≤◌, cond, ltb, leb, List, Some, None, Option, sym, ap, ◌∙◌, arith}
 use Rattle.std.proofs.lemmas.Bool.Decides.{nat_tests}
-use Rattle.fault.specs.declared.Fault.{Fault}
 use Rattle.fault.specs.declared.Fault.TheVariants.{NoHandle, TooLong, NoSpace}
 use Rattle.content.specs.Bytes.{limit}
 use Rattle.store.specs.Meaning.{Handle, when_some}

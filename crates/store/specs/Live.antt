@@ -5,7 +5,7 @@ use Rattle.fault.specs.declared.Fault.{Fault}
 use Rattle.fault.specs.declared.Fault.TheVariants.{NoHandle, TooLong, ReadOverflow, NoSpace, InsufficientLength}
 use Rattle.content.specs.Bytes.{limit, written, cut}
 use Rattle.table.specs.Tables.{found, amended, without}
-use Rattle.store.specs.Meaning.{Handle, with_live, when_some, refused, when_ok, Done}
+use Rattle.store.specs.Meaning.{Handle, with_live, when_some, when_ok, Done}
 
 -- the most handles held at once, and the most ever issued
 abbrev pub handle_limit : ℕ

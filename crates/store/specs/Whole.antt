@@ -1,11 +1,11 @@
 -- The whole store: what each call answers and leaves.
 use Rattle.std.specs.Prelude.{ℕ, ◌+◌, ◌-◌, Bool, cond, ◌||◌, List, [], length, Some, None, Ok, Err, Option, Result}
 use Rattle.fault.specs.declared.Fault.{Fault}
-use Rattle.fault.specs.declared.Fault.TheVariants.{NoHandle, TooLong, TableFull, BadPartition, BlobMissing}
+use Rattle.fault.specs.declared.Fault.TheVariants.{NoHandle, TooLong, TableFull, BadPartition}
 use Rattle.name.specs.Names.{is_partition}
-use Rattle.store.specs.Meaning.{File, Handle, Volume, Disk, with_handles, with_volume, when_some, refused, when_ok, Done}
+use Rattle.store.specs.Meaning.{File, Volume, Disk, with_handles, with_volume, when_some, refused, when_ok, Done}
 use Rattle.store.specs.Live.{handle_at, handles_full, handles_with, held_fault, write_fault, resize_fault, live_written, live_resized, closed}
-use Rattle.store.specs.Durable.{open_too_long, crowded, opened_file, opened_volume, file_stands, keep_answer, durable_written, durable_replaced, removed, removed_partition}
+use Rattle.store.specs.Durable.{open_too_long, crowded, opened_file, opened_volume, file_stands, keep_answer, durable_written, durable_replaced}
 
 -- what an open meets: TooLong, then TableFull
 abbrev pub open_fault : Disk → List ℕ → List ℕ → List ℕ → Option Fault

@@ -1,4 +1,4 @@
-ghost use Rattle.std.specs.Prelude.{◌≡◌, ◌<◌, ltb, [], ◌∷◌, ◌++◌, length, if◌then◌else◌, nat_lt};
+ghost use Rattle.std.specs.Prelude.{◌≡◌, ◌<◌, [], ◌∷◌, ◌++◌, length, if◌then◌else◌, nat_lt};
 ghost use Rattle.store.specs.Taken.{taken};
 
 use super::generations::Generations;
@@ -21,7 +21,7 @@ impl Generations {
 
     /// One more generation; a ninth changes nothing.
     pub fn push(&mut self, generation: u64)
-        ensures { taken self.new ≡ (if ltb (length (taken self.old)) 8 then taken self.old ++ (generation ∷ []) else taken self.old) }
+        ensures { taken self.new ≡ (if nat_lt (length (taken self.old)) 8 then taken self.old ++ (generation ∷ []) else taken self.old) }
     {
         if self.has_room() {
             self.add(generation);

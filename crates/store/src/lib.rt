@@ -1,4 +1,6 @@
 //! What a store is asked, what it answers and what it means afterwards.
+#![tactic(auto)]
+
 ghost use Rattle.std.specs.Prelude.{◌≡◌, ℕ, Bool, List, [], length};
 ghost use Rattle.content.specs.Patches.{patch};
 ghost use Rattle.store.specs.Meaning.{Disk, empty_disk, with_volume};

@@ -11,11 +11,11 @@ loop-flag-preserved g c =
     let len = c.loop-flag.auto.chosen in
     let rate = c.args.rate in
     let w = g.S.Source.words c.loop-flag.source in
-    let v = g.S.Source.words c.roll-on-going.new.source in
-    let b = c.roll-on-going.result in
+    let v = g.S.Source.words c.roll_on-going.new.source in
+    let b = c.roll_on-going.result in
     let going = c.loop-flag.going in
-    let said = c.roll-on-going.ensures.said in
-    let left = c.roll-on-going.ensures.left in (
+    let said = c.roll_on-going.ensures.said in
+    let left = c.roll_on-going.ensures.left in (
       prefix-flags out n i h len rate w v b going said left ∙ c.loop-flag.invariant.0,
       prefix-left out n i h len rate w v b going said left ∙ c.loop-flag.invariant.1,
     )

@@ -4,14 +4,14 @@ use Rattle.table.proofs.Places.{map-kept-by}
 use Rattle.store.specs.Durable.{in_partition}
 use Rattle.memory.specs.Volumes.{file_of}
 use Rattle.memory.proofs.changes.keep_others.Goals as goal
-use Rattle.memory.proofs.changes.keep_others.Goals.{then-is-outside, else-is-outside}
+use Rattle.memory.proofs.changes.keep_others.Goals.{then-is_outside, else-is_outside}
 
 pub loop-i-preserved : goal.loop-i-preserved
-loop-i-preserved c = elim c.if-is-outside.branch [
-  | then-is-outside w ↦ rw (w.files-is, w.others-is)
-      (FiltersInPlace-more_set c.loop-i.invariant (omega arith) (sym c.is-outside.ensures ∙ w.if-is-outside.true) c.index-files-i.is)
-  | else-is-outside w ↦ rw (w.files-is, w.others-is)
-      (FiltersInPlace-more_no c.loop-i.invariant (omega arith) (sym c.is-outside.ensures ∙ w.if-is-outside.false) c.index-files-i.is)
+loop-i-preserved c = elim c.if-is_outside.branch [
+  | then-is_outside w ↦ rw (w.files-is, w.others-is)
+      (FiltersInPlace-more_set c.loop-i.invariant (omega arith) (sym c.is_outside.ensures ∙ w.if-is_outside.true) c.index-files-i.is)
+  | else-is_outside w ↦ rw (w.files-is, w.others-is)
+      (FiltersInPlace-more_no c.loop-i.invariant (omega arith) (sym c.is_outside.ensures ∙ w.if-is_outside.false) c.index-files-i.is)
 ]
 
 pub returns : goal.returns

@@ -1,10 +1,10 @@
 use Rattle.draw.proofs.Tapes.{end-front, end_rest, short-rest}
 use Rattle.draw.proofs.tape.TapeSource.next.Goals as goal
 
-pub invariant-of-self : goal.invariant-of-self
-invariant-of-self c =
+pub invariant_of-self : goal.invariant_of-self
+invariant_of-self c =
     let tape = c.args.self.now in
-    (short-rest tape.words.now c.in-Some.first.now c.in-Some.others.now c.in-Some.ensures.cases.0 tape.short, tt)
+    record { short = short-rest tape.words.now c.in-Some.first.now c.in-Some.others.now c.in-Some.ensures.cases.0 tape.short }
 
 pub returns-in-None : goal.returns-in-None
 returns-in-None c =

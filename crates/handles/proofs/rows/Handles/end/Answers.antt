@@ -3,11 +3,11 @@ use Rattle.std.proofs.lemmas.List.{places}
 use Rattle.handles.proofs.Tables.{row_at, none-closed}
 use Rattle.handles.proofs.rows.Handles.end.Goals as goal
 
-pub returns-in-default : goal.returns-in-default
-returns-in-default c = record { state = none-closed c.args.self.now c.args.number c.in-default.ensures.place; counted = refl }
+pub returns-in_default : goal.returns-in_default
+returns-in_default c = record { state = none-closed c.args.self.now c.args.number c.in_default.ensures.place; counted = refl }
 
-pub invariant-of-self : goal.invariant-of-self
-invariant-of-self c = ((omega arith, search (rules, places), omega arith), tt)
+pub invariant_of-self : goal.invariant_of-self
+invariant_of-self c = record { fits = (omega arith, search (rules, places), omega arith) }
 
 pub returns : goal.returns
 returns c =

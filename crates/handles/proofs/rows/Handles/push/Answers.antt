@@ -12,10 +12,10 @@ listed c = omega (arith, (not_full c.args.self.now c.requires).0)
 pub bounds-self-count : goal.bounds-self-count
 bounds-self-count c = omega (arith, (not_full c.args.self.now c.requires).0)
 
-pub invariant-of-self : goal.invariant-of-self
-invariant-of-self c =
+pub invariant_of-self : goal.invariant_of-self
+invariant_of-self c =
     let n = not_full c.args.self.now c.requires in
-    ((omega arith, simp length-set c.args.self.now.fits.1, omega arith), tt)
+    record { fits = (omega arith, simp length-set c.args.self.now.fits.1, omega arith) }
 
 pub returns : goal.returns
 returns c =

@@ -4,12 +4,12 @@ use Rattle.table.proofs.Finds.{amended-none}
 use Rattle.store.specs.Meaning.{Handle, with_live}
 use Rattle.store.specs.Live.{numbered}
 use Rattle.store.proofs.Faults.{resize-fits}
-use Rattle.handles.specs.Opened.{handle_of, handles_of}
+use Rattle.handles.specs.Opened.{handles_of}
 use Rattle.handles.proofs.Tables.{row_at, no_row, any-row}
 use Rattle.handles.proofs.rows.Handles.set_len.Goals as goal
 
-pub resize-row-requires : goal.resize-row-requires
-resize-row-requires c =
+pub resize_row-requires : goal.resize_row-requires
+resize_row-requires c =
     let t = c.args.self.now in
     let at = row_at t c.args.number c.in-Some.i c.in-Some.ensures.place in
     record { inside = omega (arith, at.inside); fits = λ d. resize-fits (handles_of t) c.args.number c.args.len _ (at.it d) c.requires }
@@ -19,13 +19,13 @@ returns-in-Some c =
     let t = c.args.self.now in
     let at = row_at t c.args.number c.in-Some.i c.in-Some.ensures.place in
     record {
-      state = at.changed (λ (h : Handle). with_live h (cut (h.header + c.args.len) h.live)) any-row c.resize-row.new.rows (c.resize-row.ensures any-row);
+      state = at.changed (λ (h : Handle). with_live h (cut (h.header + c.args.len) h.live)) any-row c.resize_row.new.rows (c.resize_row.ensures any-row);
       counted = refl;
     }
 
-pub returns-in-default : goal.returns-in-default
-returns-in-default c =
-    let none = no_row c.args.self.now c.args.number c.in-default.ensures.place in
+pub returns-in_default : goal.returns-in_default
+returns-in_default c =
+    let none = no_row c.args.self.now c.args.number c.in_default.ensures.place in
     record {
       state = sym (amended-none (numbered c.args.number) (λ (h : Handle). with_live h (cut (h.header + c.args.len) h.live)) (handles_of c.args.self.now) none);
       counted = refl;

@@ -7,8 +7,8 @@ use Rattle.memory.specs.Volumes.{volume_of}
 use Rattle.memory.proofs.Found.{file-below, file-amended, keep-absent}
 use Rattle.memory.proofs.medium.MemoryMedium.crash_write.Goals as goal
 
-pub offset-bounds-files-i : goal.offset-bounds-files-i
-offset-bounds-files-i c = omega (arith, file-below c.args.self.now (generated c.args.generation) c.in-Some.i c.in-Some.ensures)
+pub offset_bounds-files-i : goal.offset_bounds-files-i
+offset_bounds-files-i c = omega (arith, file-below c.args.self.now (generated c.args.generation) c.in-Some.i c.in-Some.ensures)
 
 pub listed : goal.listed
 listed c = omega (arith, file-below c.args.self.now (generated c.args.generation) c.in-Some.i c.in-Some.ensures)
@@ -26,9 +26,9 @@ returns-in-Some c =
     (λ f. with_durable f (within (f.header + at + length os) (lay f.durable (f.header + at) os) f.durable))
     c.lay.ensures)
 
-pub returns-in-default : goal.returns-in-default
-returns-in-default c =
+pub returns-in_default : goal.returns-in_default
+returns-in_default c =
     let at = c.args.offset in
     let os = patch c.args.bytes.now c.args.chosen.now in
-    keep-absent c.args.self.now c.args.generation c.in-default.ensures
+    keep-absent c.args.self.now c.args.generation c.in_default.ensures
     (λ f. with_durable f (within (f.header + at + length os) (lay f.durable (f.header + at) os) f.durable))

@@ -15,41 +15,41 @@ use Rattle.memory.proofs.medium.MemoryMedium.remove_partition.Goals as goal
 abbrev emptied : Volume → List ℕ → Volume
 emptied v p = record { partitions = without (λ q. bytes_eq q p) v.partitions; files = filter (λ f. not (in_partition p f)) v.files }
 
-pub returns-in-err-i : goal.returns-in-err-i
-returns-in-err-i c =
+pub returns-in_err-i : goal.returns-in_err-i
+returns-in_err-i c =
     let v = volume_of c.args.self.now in
     let p = c.args.partition.now in
-    let e = err_from_is_err_and c.from-residual.result c.from-residual.ensures.1 in
+    let e = err_from_is_err_and c.from_residual.result c.from_residual.ensures.1 in
     let b : Err e.0 ≡ remove_partition_answer v p =
-    ap Err e.2 ∙ sym (missing v p _ (sym c.in-err-i.ensures) (Ok tt))
-    ∙ ap (λ (o : Option Fault). refused {A = Unit {0}} o (in_standing v p (Ok tt))) c.in-default.ensures in
+    ap Err e.2 ∙ sym (missing v p _ (sym c.in_err-i.ensures) (Ok tt))
+    ∙ ap (λ (o : Option Fault). refused {A = Unit {0}} o (in_standing v p (Ok tt))) c.in_default.ensures in
     record {
       answer = e.1 ∙ b;
       state = ap (λ (r : Done). when_ok r (emptied v p) v) b;
     }
 
-pub remove-partition-at-requires : goal.remove-partition-at-requires
-remove-partition-at-requires c =
+pub remove_partition_at-requires : goal.remove_partition_at-requires
+remove_partition_at-requires c =
     let m = c.args.self.now in
     let p = c.args.partition.now in
-    (here name_of (λ q. bytes_eq q p) m.partitions m.stand (omega arith) c.in-ok-i.i
-    (standing-place (volume_of m) p c.in-ok-i.i (sym c.in-ok-i.ensures))).inside
+    (here name_of (λ q. bytes_eq q p) m.partitions m.stand (omega arith) c.in_ok-i.i
+    (standing-place (volume_of m) p c.in_ok-i.i (sym c.in_ok-i.ensures))).inside
 
 pub returns : goal.returns
 returns c =
     let m = c.args.self.now in
     let v = volume_of m in
     let p = c.args.partition.now in
-    let i = c.in-ok-i.i in
-    let h = sym c.in-ok-i.ensures in
+    let i = c.in_ok-i.i in
+    let h = sym c.in_ok-i.ensures in
     let it = position_some (λ q. bytes_eq q p) (partitions_of m) i (standing-place v p i h) in
     let a : Ok tt ≡ remove_partition_answer v p =
-    sym (standing v p i h (Ok tt)) ∙ ap (λ (o : Option Fault). refused {A = Unit {0}} o (in_standing v p (Ok tt))) c.in-default.ensures in
-    let gone : volume_of c.remove-partition-at.new.self ≡ with_partitions v (without (λ q. bytes_eq q p) (partitions_of m)) =
-    c.remove-partition-at.ensures ∙ ap (with_partitions v) (sym it.removal) in
+    sym (standing v p i h (Ok tt)) ∙ ap (λ (o : Option Fault). refused {A = Unit {0}} o (in_standing v p (Ok tt))) c.in_default.ensures in
+    let gone : volume_of c.remove_partition_at.new.self ≡ with_partitions v (without (λ q. bytes_eq q p) (partitions_of m)) =
+    c.remove_partition_at.ensures ∙ ap (with_partitions v) (sym it.removal) in
     record {
       answer = a;
-      state = c.remove-files-in.ensures
+      state = c.remove_files_in.ensures
           ∙ ap (λ (w : Volume). with_files w (filter (λ f. not (in_partition p f)) w.files)) gone
           ∙ ap (λ (r : Done). when_ok r (emptied v p) v) a;
     }

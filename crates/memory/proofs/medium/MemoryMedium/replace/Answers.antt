@@ -6,16 +6,16 @@ use Rattle.memory.specs.Volumes.{volume_of}
 use Rattle.memory.proofs.Found.{file-below, file-amended, keep-ok, keep-missing, keep-absent}
 use Rattle.memory.proofs.medium.MemoryMedium.replace.Goals as goal
 
-pub returns-in-default : goal.returns-in-default
-returns-in-default c =
+pub returns-in_default : goal.returns-in_default
+returns-in_default c =
     let m = c.args.self.now in
     record {
-      answer = keep-missing m c.args.generation c.in-default.ensures;
-      state = keep-absent m c.args.generation c.in-default.ensures (λ f. with_durable f (bytes_of c.args.live.now));
+      answer = keep-missing m c.args.generation c.in_default.ensures;
+      state = keep-absent m c.args.generation c.in_default.ensures (λ f. with_durable f (bytes_of c.args.live.now));
     }
 
-pub offset-bounds-files-i : goal.offset-bounds-files-i
-offset-bounds-files-i c = omega (arith, file-below c.args.self.now (generated c.args.generation) c.in-Some.i c.in-Some.ensures)
+pub offset_bounds-files-i : goal.offset_bounds-files-i
+offset_bounds-files-i c = omega (arith, file-below c.args.self.now (generated c.args.generation) c.in-Some.i c.in-Some.ensures)
 
 pub listed : goal.listed
 listed c = omega (arith, file-below c.args.self.now (generated c.args.generation) c.in-Some.i c.in-Some.ensures)

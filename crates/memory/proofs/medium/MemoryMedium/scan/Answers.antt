@@ -10,15 +10,15 @@ use Rattle.memory.proofs.Rooms.{scan-room}
 use Rattle.memory.proofs.Standing.{standing, missing}
 use Rattle.memory.proofs.medium.MemoryMedium.scan.Goals as goal
 
-pub returns-in-err-seek-partition : goal.returns-in-err-seek-partition
-returns-in-err-seek-partition c =
+pub returns-in_err-seek_partition : goal.returns-in_err-seek_partition
+returns-in_err-seek_partition c =
     let v = volume_of c.args.self.now in
     let p = c.args.partition.now in
     let area = c.args.area.now in
-    let e = err_from_is_err_and c.from-residual.result c.from-residual.ensures.1 in
+    let e = err_from_is_err_and c.from_residual.result c.from_residual.ensures.1 in
     let b : Err e.0 ≡ scan_answer v p (length area) =
-    ap Err e.2 ∙ sym (missing v p _ (sym c.in-err-seek-partition.ensures) (Ok (length (scanned v p))))
-    ∙ ap (λ (o : Option Fault). refused o (in_standing v p (Ok (length (scanned v p))))) c.in-default.ensures in
+    ap Err e.2 ∙ sym (missing v p _ (sym c.in_err-seek_partition.ensures) (Ok (length (scanned v p))))
+    ∙ ap (λ (o : Option Fault). refused o (in_standing v p (Ok (length (scanned v p))))) c.in_default.ensures in
     record {
       answer = e.1 ∙ b;
       put = ap (λ (r : Result ℕ Fault). when_ok r (first (scanned v p) area) area) b;
@@ -29,12 +29,12 @@ returns c =
     let v = volume_of c.args.self.now in
     let p = c.args.partition.now in
     let area = c.args.area.now in
-    let room = scan-room p (length area) c.in-default.ensures in
+    let room = scan-room p (length area) c.in_default.ensures in
     let a : Ok (length (scanned v p)) ≡ scan_answer v p (length area) =
-    sym (standing v p _ (sym c.in-ok-seek-partition.ensures) (Ok (length (scanned v p))))
-    ∙ ap (λ (o : Option Fault). refused o (in_standing v p (Ok (length (scanned v p))))) c.in-default.ensures in
+    sym (standing v p _ (sym c.in_ok-seek_partition.ensures) (Ok (length (scanned v p))))
+    ∙ ap (λ (o : Option Fault). refused o (in_standing v p (Ok (length (scanned v p))))) c.in_default.ensures in
     record {
-      answer = c.write.ensures.answer ∙ cond-false _ _ _ room ∙ ap (λ ns. Ok (length (listing ns))) c.names-in.ensures ∙ a;
-      put = c.write.ensures.put ∙ cond-false _ _ _ room ∙ ap (λ ns. first (listing ns) area) c.names-in.ensures
+      answer = c.write.ensures.answer ∙ cond-false _ _ _ room ∙ ap (λ ns. Ok (length (listing ns))) c.names_in.ensures ∙ a;
+      put = c.write.ensures.put ∙ cond-false _ _ _ room ∙ ap (λ ns. first (listing ns) area) c.names_in.ensures
           ∙ ap (λ (r : Result ℕ Fault). when_ok r (first (scanned v p) area) area) a;
     }

@@ -7,17 +7,17 @@ use Rattle.memory.proofs.rows.Memory.find_generation.Goals as goal
 pub loop-i-init : goal.loop-i-init
 loop-i-init c = find_none file_of (generated c.args.generation) c.args.self.now.files c.args.self.now.count (omega arith)
 
-pub returns-then-is-of : goal.returns-then-is-of
-returns-then-is-of c =
+pub returns-then-is_of : goal.returns-then-is_of
+returns-then-is_of c =
     find-here file_of (generated c.args.generation) c.args.self.now.files c.args.self.now.count (omega arith)
     c.loop-i.i c.index-self-i.result c.loop-i-test.true c.index-self-i.is
-    (ap (λ r. (generated c.args.generation) (file_of r)) c.index-self-i.is ∙ sym c.if-is-of.ensures) c.loop-i.invariant
+    (ap (λ r. (generated c.args.generation) (file_of r)) c.index-self-i.is ∙ sym c.if-is_of.ensures) c.loop-i.invariant
 
 pub loop-i-preserved : goal.loop-i-preserved
 loop-i-preserved c =
     find-more file_of (generated c.args.generation) c.args.self.now.files c.args.self.now.count (omega arith)
     c.loop-i.i c.index-self-i.result c.loop-i-test.true c.index-self-i.is
-    (ap (λ r. (generated c.args.generation) (file_of r)) c.index-self-i.is ∙ sym c.if-is-of.ensures) c.loop-i.invariant
+    (ap (λ r. (generated c.args.generation) (file_of r)) c.index-self-i.is ∙ sym c.if-is_of.ensures) c.loop-i.invariant
 
 pub returns : goal.returns
 returns c =

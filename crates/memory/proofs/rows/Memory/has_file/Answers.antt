@@ -6,4 +6,4 @@ use Rattle.memory.proofs.rows.Memory.has_file.Goals as goal
 
 pub returns : goal.returns
 returns c =
-    c.is-some.ensures ∙ ap is_some c.find.ensures ∙ position-found (named c.args.partition.now c.args.name.now) (files_of c.args.self.now)
+    c.is_some.ensures ∙ ap is_some c.find.ensures ∙ position-found (named c.args.partition.now c.args.name.now) (files_of c.args.self.now)

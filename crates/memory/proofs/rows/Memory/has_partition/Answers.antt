@@ -6,4 +6,4 @@ use Rattle.memory.proofs.rows.Memory.has_partition.Goals as goal
 
 pub returns : goal.returns
 returns c =
-    c.is-some.ensures ∙ ap is_some c.find-partition.ensures ∙ position-found (λ q. bytes_eq q c.args.partition.now) (partitions_of c.args.self.now)
+    c.is_some.ensures ∙ ap is_some c.find_partition.ensures ∙ position-found (λ q. bytes_eq q c.args.partition.now) (partitions_of c.args.self.now)

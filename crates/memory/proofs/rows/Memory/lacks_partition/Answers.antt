@@ -4,8 +4,8 @@ use Rattle.table.proofs.Uses.{used-length}
 use Rattle.memory.specs.Volumes.{partitions_of}
 use Rattle.memory.proofs.rows.Memory.lacks_partition.Goals as goal
 
-pub returns-then-not-has-partition : goal.returns-then-not-has-partition
-returns-then-not-has-partition c =
+pub returns-then-not-has_partition : goal.returns-then-not-has_partition
+returns-then-not-has_partition c =
     let m = c.args.self.now in
     ap (leb 4) (sym (used-length name_of m.partitions m.stand (omega arith)))
-    ∙ ap (λ (t : Bool). not t && leb 4 (length (partitions_of m))) c.if-not-has-partition.ensures
+    ∙ ap (λ (t : Bool). not t && leb 4 (length (partitions_of m))) c.if-not-has_partition.ensures

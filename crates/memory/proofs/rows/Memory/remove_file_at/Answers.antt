@@ -5,8 +5,8 @@ use Rattle.store.specs.Meaning.{with_files}
 use Rattle.memory.specs.Volumes.{file_of, volume_of}
 use Rattle.memory.proofs.rows.Memory.remove_file_at.Goals as goal
 
-pub invariant-of-self : goal.invariant-of-self
-invariant-of-self c = ((omega arith, search (rules, places), omega arith, search (rules, places)), tt)
+pub invariant_of-self : goal.invariant_of-self
+invariant_of-self c = record { fits = (omega arith, search (rules, places), omega arith, search (rules, places)) }
 
 pub returns : goal.returns
 returns c =

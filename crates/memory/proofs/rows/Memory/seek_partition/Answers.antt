@@ -7,5 +7,5 @@ use Rattle.memory.proofs.rows.Memory.seek_partition.Goals as goal
 
 pub returns : goal.returns
 returns c =
-    c.ok-or.ensures.value ∙ ap (λ o. ok_or o PartitionMissing) c.find-partition.ensures
-    ∙ place_is (volume_of c.args.self.now) c.args.partition.now (sym c.if-not-is-partition.ensures)
+    c.ok_or.ensures.value ∙ ap (λ o. ok_or o PartitionMissing) c.find_partition.ensures
+    ∙ place_is (volume_of c.args.self.now) c.args.partition.now (sym c.if-not-is_partition.ensures)

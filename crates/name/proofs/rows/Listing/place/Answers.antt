@@ -10,10 +10,10 @@ listed c =
     let few = used-length name_of c.args.self.now.names c.args.self.now.count (omega arith) in
     search (rules, places)
 
-pub invariant-of-self : goal.invariant-of-self
-invariant-of-self c =
+pub invariant_of-self : goal.invariant_of-self
+invariant_of-self c =
     let few = used-length name_of c.args.self.now.names c.args.self.now.count (omega arith) in
-    ((omega arith, search (rules, places)), tt)
+    record { fits = (omega arith, search (rules, places)) }
 
 pub returns : goal.returns
 returns c =

@@ -1,5 +1,5 @@
 use Rattle.std.proofs.Common.{◌≡◌, length, arith}
-use Rattle.std.proofs.lemmas.List.{length-set, length-take-le, take_more_set}
+use Rattle.std.proofs.lemmas.List.{length-take-le, take_more_set}
 use Rattle.store.specs.Taken.{taken}
 use Rattle.store.proofs.generations.Generations.add.Goals as goal
 
