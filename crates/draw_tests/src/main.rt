@@ -1,4 +1,6 @@
 //! Prints draws from known sources. The file `stdout` has what it must print; `data/expected.py` made it.
+#![tactic(auto)]
+
 use draw::generator::Generator;
 use draw::select::{PartialWriteMode, select};
 use draw::source::{Source, pick, roll};

@@ -1,4 +1,6 @@
 //! A boot journal in a memory store: what each call answers, and the file that the medium keeps after a restart.
+#![tactic(auto)]
+
 use memory::rows::Memory;
 use shown::{Hex, Told};
 use std::io;

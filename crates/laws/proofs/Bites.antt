@@ -1,8 +1,8 @@
 -- The wrong logs, by computing.
-use Rattle.std.proofs.Common.{◌≡◌, ℕ, true, false, [], length, Some, None, Option, sym, refl, ◌∙◌, arith}
+use Rattle.std.proofs.Common.{◌≡◌, ℕ, Some, None, Option, sym, refl, ◌∙◌, arith}
 use Rattle.std.proofs.lemmas.Bool.{false≢true}
 use Rattle.content.specs.Bytes.{written, cut}
-use Rattle.laws.specs.Pages.{Cell, settled_at, Allowed, as_fixed, as_put, blank_marked, blank_unfixed}
+use Rattle.laws.specs.Pages.{settled_at, Allowed, as_fixed, as_put, blank_marked, blank_unfixed}
 use Rattle.laws.specs.Variants.{VariantsFail}
 
 -- a place where a byte was fixed, and nothing noted since, holds that byte alone

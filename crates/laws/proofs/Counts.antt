@@ -1,5 +1,5 @@
 -- Each call keeps the sizes, and so the size promise holds.
-use Rattle.std.proofs.Common.{◌≡◌, ℕ, ◌+◌, ◌-◌, ◌^◌, ◌<◌, ◌≤◌, min, max, Bool, true, false, cond, not, ◌&&◌, eqb, ltb, leb, ◌⊎◌, List, [], ◌∷◌, ◌++◌, map, length, take, drop, is_some, Some, None, Ok, Err, Decides, filter, Option, Result, sym, refl, ap, ◌∙◌, subst, inl, inr, arith, rules}
+use Rattle.std.proofs.Common.{◌≡◌, ℕ, ◌+◌, ◌^◌, ◌<◌, ◌≤◌, Bool, true, false, cond, not, eqb, ltb, leb, ◌⊎◌, List, [], ◌∷◌, ◌++◌, map, length, is_some, Some, None, Ok, Err, Decides, filter, Option, Result, sym, refl, ap, ◌∙◌, subst, inl, inr, arith, rules}
 use Rattle.std.specs.List.{AllByRecursion as All}
 use Rattle.std.specs.Str.{bytes_eq}
 use Rattle.std.proofs.lemmas.List.{same_lists, places}
@@ -9,19 +9,19 @@ use Rattle.fault.specs.declared.Op.{Op as Operation}
 use Rattle.fault.specs.declared.Op.TheVariants as Op
 use Rattle.fault.specs.declared.Fault.{Fault}
 use Rattle.fault.specs.declared.Fault.TheVariants.{BadRate, AlreadyOpen, Injected, InsufficientLength, ReadOverflow}
-use Rattle.draw.specs.Words.{Words, after, rolled, roll_taken, picked, pick_taken}
+use Rattle.draw.specs.Words.{Words, after, rolled, roll_taken}
 use Rattle.content.specs.Bytes.{limit}
 use Rattle.name.specs.Names.{is_partition}
 use Rattle.table.specs.Tables.{found, without}
 use Rattle.table.proofs.Keys.{found-without-other, found-without-none, found-kept-none, found_push_other, found-push-new, found-push-same}
 use Rattle.table.proofs.Finds.{without-none}
-use Rattle.store.specs.Meaning.{File, Handle, Disk, Volume, Done, with_files, with_volume, when_some, when_ok, refused}
-use Rattle.store.specs.Live.{numbered, handle_at, closed, held_fault, resize_fault, read_of, read_bytes}
-use Rattle.store.specs.Durable.{named, generated, in_partition, file_at, file_of, file_stands, new_file, opened_file, opened_volume, remove_fault, remove_answer, removed, remove_partition_fault, remove_partition_answer, removed_partition, durable_replaced}
-use Rattle.store.specs.Whole.{open_fault, open_answer, opened, closed_disk, synced, sync_answer}
-use Rattle.steps.specs.Log.{Entry, Marked, recorded, fixed, whole, replayed}
-use Rattle.steps.specs.State.{Faulty, Bench, Outcome, Size, Rates, Ticket, WriteRates, ResizeRates, rate_of, write_failure, retention, changed, least}
-use Rattle.steps.specs.Faulty.{turned, struck, rolling, done, is_size, size_in, sizes_with, open_step, read_step, remove_step, remove_partition_step, is_empty, write_refusal, log_for, failing_write, recording, writing, good_write, write_step, resizing, failing_resize, resize_step, full_fault, sync_step, ticketed, is_done, tickets_fault, start_sync_step, settle_step, close_step, configure_step, bad_rates, restart_step, crash_step, runs}
+use Rattle.store.specs.Meaning.{File, Handle, Disk, Volume, Done, with_files, with_volume, when_some, when_ok}
+use Rattle.store.specs.Live.{numbered, handle_at, closed, held_fault, read_of, read_bytes}
+use Rattle.store.specs.Durable.{named, generated, in_partition, file_at, file_of, new_file, opened_file, opened_volume, remove_fault, remove_answer, removed, remove_partition_fault, remove_partition_answer, removed_partition, durable_replaced}
+use Rattle.store.specs.Whole.{open_fault, open_answer, opened, closed_disk, synced}
+use Rattle.steps.specs.Log.{replayed}
+use Rattle.steps.specs.State.{Faulty, Bench, Outcome, Size, Rates, Ticket, rate_of}
+use Rattle.steps.specs.Faulty.{turned, struck, rolling, done, is_size, sizes_with, open_step, read_step, remove_step, remove_partition_step, write_step, resize_step, sync_step, is_done, start_sync_step, settle_step, close_step, configure_step, bad_rates, restart_step, crash_step}
 use Rattle.steps.specs.Register.{leased, lifted, registered, open_call}
 use Rattle.steps.specs.Calls.{Call, Open, Remove, Scan, Read, Write, Resize, Size as AskSize, Sync, StartSync, Settle, Close, Configure, Look, Crash, Restart, Told, stretch, replaced, within, below, step}
 use Rattle.reached.specs.Sound.{Sound, Sized, Distinct}
@@ -35,7 +35,7 @@ use Rattle.laws.proofs.Files.{gone-without}
 use Rattle.laws.proofs.Walks.{after-turned, after-rolling, write-walk, resize-walk, sync-walk, start-walk}
 use Rattle.laws.proofs.Good.{Good, settling, Quiet, scan-quiet, read-quiet, size-quiet, look-quiet}
 use Rattle.laws.proofs.Opens.{opened_ok, first_size, opened-ok}
-use Rattle.laws.proofs.Sizes.{SizesOk, SizeInv, NoneNew, none-new-from, none-new-changed, sizes-fewer, write-sizes, resize-sizes, ran-sizes}
+use Rattle.laws.proofs.Sizes.{SizeInv, NoneNew, none-new-from, none-new-changed, sizes-fewer, write-sizes, resize-sizes, ran-sizes}
 
 -- nothing is found by a number that all rows are below
 pub unissued : {A : Type 0} (key : A → ℕ) (k : ℕ) (xs : List A) → All (λ x. key x < k) xs → found (λ x. eqb (key x) k) xs ≡ None

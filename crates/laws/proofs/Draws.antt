@@ -1,8 +1,8 @@
 -- Draws on two lists of words that begin with the same words come out the same.
-use Rattle.std.proofs.Common.{◌≡◌, ℕ, zero, suc, ◌+◌, ◌*◌, ◌%◌, ◌<◌, Bool, true, false, cond, eqb, ltb, List, [], ◌∷◌, length, replicate, sym, refl, ap, ◌∙◌, suc-mul, suc-add, zero-add, zero-mul, arith}
-use Rattle.draw.specs.Words.{Words, front, rest, after, rolled, roll_taken, picked, pick_taken}
-use Rattle.draw.specs.Selections.{prefix, prefix_taken, subset, subset_taken, selected, select_taken}
-use Rattle.draw.specs.Sources.{before, tape_words}
+use Rattle.std.proofs.Common.{◌≡◌, ℕ, zero, suc, ◌+◌, ◌*◌, ◌%◌, ◌<◌, Bool, true, false, cond, eqb, ltb, List, ◌∷◌, replicate, sym, refl, ap, ◌∙◌, suc-mul, suc-add, zero-add, arith}
+use Rattle.draw.specs.Words.{Words, rest, after, rolled, roll_taken, picked, pick_taken}
+use Rattle.draw.specs.Selections.{prefix, prefix_taken, subset, selected, select_taken}
+use Rattle.draw.specs.Sources.{tape_words}
 use Rattle.draw.specs.declared.select.PartialWriteMode.{PartialWriteMode}
 use Rattle.draw.specs.declared.select.PartialWriteMode.TheVariants.{Prefix, Subset}
 use Rattle.laws.specs.Promises.{taken}

@@ -1,5 +1,5 @@
 -- What holds between a bench and the ledger beside it after every call; and the calls that leave the ledger as it is.
-use Rattle.std.proofs.Common.{◌≡◌, ℕ, ◌+◌, ◌<◌, ◌≤◌, Bool, true, false, cond, eqb, ltb, leb, List, [], ◌∷◌, length, Some, None, Ok, Err, Option, Result, sym, refl, ap, ◌∙◌, subst, arith}
+use Rattle.std.proofs.Common.{◌≡◌, ℕ, ◌+◌, ◌<◌, Bool, true, false, cond, eqb, ltb, List, [], ◌∷◌, length, Some, None, Ok, Err, Option, Result, sym, refl, ap, ◌∙◌, subst, arith}
 use Rattle.std.specs.List.{AllByRecursion as All}
 use Rattle.std.proofs.lemmas.Bool.{cond_both, eqb-true}
 use Rattle.fault.specs.Numbers.{number}
@@ -10,7 +10,7 @@ use Rattle.draw.specs.Words.{Words, after, rolled, roll_taken}
 use Rattle.draw.specs.Selections.{selected, select_taken}
 use Rattle.table.specs.Tables.{found, without}
 use Rattle.fault.specs.declared.Op.TheVariants as Op
-use Rattle.store.specs.Meaning.{File, Handle, Disk, Volume, Done, with_files, with_volume, when_some}
+use Rattle.store.specs.Meaning.{File, Handle, Volume, Done, with_files, with_volume, when_some}
 use Rattle.store.specs.Live.{numbered, handle_at, held_fault}
 use Rattle.store.specs.Durable.{generated, file_of, scan_fault, crash_written, crash_resized}
 use Rattle.steps.specs.Log.{Entry, Wrote, Resized, Marked, marks, kept, settled, replayed}

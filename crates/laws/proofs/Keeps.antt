@@ -1,21 +1,20 @@
 -- All files: each change of the bench keeps what holds between pages, durable bytes and log, at every place of every file.
-use Rattle.std.proofs.Common.{◌≡◌, ℕ, ◌+◌, ◌<◌, ◌≤◌, Bool, true, false, cond, ◌&&◌, eqb, leb, ◌⊎◌, List, [], ◌∷◌, ◌++◌, length, Some, None, Option, sym, refl, ap, ◌∙◌, inl, inr, arith}
+use Rattle.std.proofs.Common.{◌≡◌, ℕ, ◌+◌, ◌<◌, ◌≤◌, Bool, true, false, cond, eqb, leb, ◌⊎◌, List, [], ◌∷◌, length, Some, None, Option, sym, refl, ◌∙◌, inl, inr, arith}
 use Rattle.std.specs.List.{AllByRecursion as All}
 use Rattle.std.proofs.lemmas.Bool.{ne_eqb, eq-eqb, cond-true}
 use Rattle.draw.specs.Words.{Words}
 use Rattle.draw.specs.declared.select.PartialWriteMode.{PartialWriteMode}
 use Rattle.content.specs.Bytes.{limit}
 use Rattle.content.specs.Patches.{Patch}
-use Rattle.table.specs.Tables.{found}
 use Rattle.store.specs.Meaning.{File, Volume, with_durable}
-use Rattle.store.specs.Durable.{generated, file_of}
-use Rattle.steps.specs.Log.{Entry, Wrote, Resized, Marked, recorded, idle, resizes, fixed, dropped, dropped_all, settled, replayed}
+use Rattle.store.specs.Durable.{file_of}
+use Rattle.steps.specs.Log.{Entry, Wrote, Resized, recorded, idle, resizes, fixed, dropped_all, replayed}
 use Rattle.laws.specs.Pages.{held, reach, Page, fix_whole, fix_range, put_range, mark_all, Allowed}
 use Rattle.laws.specs.Ledger.{turned, content_of}
-use Rattle.laws.proofs.Places.{Near, Over, none-some, idle-reach}
-use Rattle.laws.proofs.Stands.{Change, Cut, Stands, Calm, Bytes, keeps, whole-stands, bare-stands, put-stands, mark-stands, mark-bytes, fix-stands}
-use Rattle.laws.proofs.Since.{noted, since, split, since-recorded, since-recorded-other, since-dropped, since-dropped-other, since-dropped-all, since-dropped-none, since-settled, since-fixed, since-fixed-other, calm-since}
-use Rattle.laws.proofs.Replay.{crash-seen, crash-none}
+use Rattle.laws.proofs.Places.{Over, idle-reach}
+use Rattle.laws.proofs.Stands.{Cut, Stands, Bytes, keeps, whole-stands, bare-stands, put-stands, mark-stands, mark-bytes, fix-stands}
+use Rattle.laws.proofs.Since.{since, split, since-recorded, since-recorded-other, since-dropped-all, since-dropped-none, since-fixed, since-fixed-other, calm-since}
+use Rattle.laws.proofs.Replay.{crash-seen}
 
 abbrev pub At : ℕ → ℕ → Page → List Entry → Option File → Type 0
 At p g page es None = Unit {0}

@@ -1,5 +1,5 @@
 -- A call sees only the words that it takes, and leaves the words after them.
-use Rattle.std.proofs.Common.{◌≡◌, ℕ, zero, suc, ◌+◌, ◌-◌, ◌*◌, ◌<◌, ◌≤◌, min, max, Bool, true, false, cond, not, ◌&&◌, eqb, ltb, List, [], ◌∷◌, ◌++◌, length, Some, None, Ok, Err, filter, Option, Result, sym, refl, ap, ◌∙◌, subst, arith}
+use Rattle.std.proofs.Common.{◌≡◌, ℕ, zero, suc, ◌+◌, ◌-◌, ◌≤◌, min, max, Bool, true, false, cond, not, ◌&&◌, eqb, ltb, List, [], ◌∷◌, ◌++◌, length, Some, None, Ok, Err, filter, Option, Result, sym, refl, ap, ◌∙◌, subst, arith}
 use mathlib.Core.Path.{fun_ext}
 use Rattle.std.specs.Str.{bytes_eq}
 use Rattle.std.proofs.lemmas.Bool.{cond-true, cond-false, cond_both}
@@ -8,22 +8,22 @@ use Rattle.fault.specs.declared.Op.TheVariants as Op
 use Rattle.fault.specs.declared.Fault.{Fault}
 use Rattle.fault.specs.declared.Fault.TheVariants.{BadRate, AlreadyOpen, Injected}
 use Rattle.draw.specs.Words.{Words, after, rolled, roll_taken, picked, pick_taken}
-use Rattle.draw.specs.Selections.{prefix, prefix_taken, selected, select_taken}
+use Rattle.draw.specs.Selections.{prefix_taken, selected, select_taken}
 use Rattle.draw.specs.declared.select.PartialWriteMode.{PartialWriteMode}
 use Rattle.draw.specs.declared.select.PartialWriteMode.TheVariants.{Prefix, Subset}
 use Rattle.table.specs.Tables.{found, without}
-use Rattle.store.specs.Meaning.{Disk, Volume, Done, when_some, when_ok, refused, with_volume}
+use Rattle.store.specs.Meaning.{Disk, Volume, Done, when_some, when_ok, refused}
 use Rattle.store.specs.Live.{held_fault, resize_fault}
 use Rattle.store.specs.Durable.{crash_written, crash_resized, scan_fault, remove_fault, remove_partition_fault}
 use Rattle.store.specs.Whole.{open_fault, sync_answer, synced}
 use Rattle.steps.specs.Log.{Entry, Wrote, Resized, Marked, marks, kept, fixed, whole, recorded, replayed}
 use Rattle.steps.specs.State.{Faulty, Bench, Outcome, Lease, Ticket, Rates, WriteRates, ResizeRates, rate_of, write_failure, retention, least, with_words, changed, fresh, Size}
 use Rattle.steps.specs.Faulty.{turned, struck, rolling, done, size_in, is_empty, write_refusal, log_for, failing_write, recording, writing, good_write, write_step, resizing, failing_resize, resize_step, full_fault, open_step, remove_step, remove_partition_step, scan_step, read_step, size_step, look_step, sync_step, ticketed, is_done, tickets_fault, start_sync_step, settle_step, close_step, configure_step, bad_rates, crash_step, restart_step}
-use Rattle.steps.specs.Register.{lease_of, leased, lifted, registered, open_call, close_call, remove_call, remove_partition_call, restart_call}
-use Rattle.steps.specs.Calls.{Call, Open, Remove, Scan, Read, Write, Resize, Size as AskSize, Sync, StartSync, Settle, Close, Configure, Look, Crash, Restart, Reply, Opened, Counted, Told, Turn, stretch, shown, within, step, run_from, run}
+use Rattle.steps.specs.Register.{lease_of, leased, lifted, registered}
+use Rattle.steps.specs.Calls.{Call, Open, Remove, Scan, Read, Write, Resize, Size as AskSize, Sync, StartSync, Settle, Close, Configure, Look, Crash, Restart, Reply, Opened, Counted, Told, Turn, stretch, shown, within, step, run_from}
 use Rattle.laws.proofs.Draws.{Upto, after-at, upto-first, upto_rest, rolled-upto, picked-upto, selected-upto}
-use Rattle.laws.specs.Promises.{on_source, Agree, Agreement}
-use Rattle.laws.proofs.Good.{settling, configuring}
+use Rattle.laws.specs.Promises.{on_source, Agreement}
+use Rattle.laws.proofs.Good.{settling}
 use Rattle.laws.proofs.Syncs.{closing}
 
 -- an outcome with other words left

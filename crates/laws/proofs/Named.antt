@@ -1,30 +1,25 @@
 -- Opens, removals, closes and restarts: which files stand and which handles are held after them.
-use Rattle.std.proofs.Common.{◌≡◌, ℕ, ◌+◌, ◌<◌, ◌≤◌, Bool, true, false, cond, not, ◌&&◌, eqb, leb, ◌⊎◌, List, [], ◌∷◌, ◌++◌, map, is_some, Some, None, Ok, Err, filter, Option, Result, sym, refl, ap, ◌∙◌, subst, inl, inr, arith}
+use Rattle.std.proofs.Common.{◌≡◌, ℕ, Bool, true, false, cond, not, ◌&&◌, eqb, ◌⊎◌, List, [], ◌∷◌, ◌++◌, map, is_some, Some, None, Ok, Err, filter, Option, sym, refl, ap, ◌∙◌, inl, inr, arith}
 use Rattle.std.specs.List.{AllByRecursion as All}
 use Rattle.std.specs.Str.{bytes_eq}
 use Rattle.std.proofs.ByRecursion.{All-weaker}
 use Rattle.std.proofs.lemmas.Slice.Eq.{bytes_eq-Decides}
-use Rattle.std.proofs.lemmas.Bool.{cond_both, cond-true, cond-false, eq-eqb, ne_eqb, cases_eq, eqb-true, leb-true, both_ways, and_parts, and_from, and_left, and_right, not_from_true, not_from_false, false≢true}
-use Rattle.fault.specs.Numbers.{number}
+use Rattle.std.proofs.lemmas.Bool.{cond_both, cond-true, cond-false, eq-eqb, ne_eqb, cases_eq, eqb-true, both_ways, and_parts, and_from, and_left, and_right, not_from_true, not_from_false}
 use Rattle.fault.specs.declared.Op.TheVariants as Op
 use Rattle.fault.specs.declared.Fault.{Fault}
-use Rattle.fault.specs.declared.Fault.TheVariants.{AlreadyOpen, Injected}
+use Rattle.fault.specs.declared.Fault.TheVariants.{Injected}
 use Rattle.draw.specs.Words.{rolled, roll_taken}
-use Rattle.name.specs.Names.{is_partition}
 use Rattle.table.specs.Tables.{found, without}
-use Rattle.table.proofs.Keys.{found-without-other, found-without-none, found-kept, found-kept-none, found_push_other, found-push-new, found-push-same}
-use Rattle.store.specs.Meaning.{File, Handle, Disk, Volume, Done, with_files, with_volume, when_some, when_ok, refused}
+use Rattle.table.proofs.Keys.{found-without-other, found-kept, found-kept-none, found_push_other, found-push-new}
+use Rattle.store.specs.Meaning.{File, Handle, Disk, Volume, Done, with_files, when_some, when_ok}
 use Rattle.store.specs.Live.{numbered, handle_at, closed, held_fault}
-use Rattle.store.specs.Durable.{named, in_partition, file_at, file_stands, new_file, opened_file, opened_volume, remove_fault, remove_answer, removed, remove_partition_fault, remove_partition_answer, removed_partition}
-use Rattle.store.specs.Whole.{open_fault}
+use Rattle.store.specs.Durable.{named, in_partition, file_at, file_stands, new_file, opened_file, remove_fault, remove_answer, remove_partition_fault, remove_partition_answer}
 use Rattle.steps.specs.Log.{Entry}
-use Rattle.steps.specs.State.{Faulty, Bench, Outcome, rate_of}
-use Rattle.steps.specs.Faulty.{turned, struck, rolling, done, is_done, open_step, close_step, remove_step, remove_partition_step}
+use Rattle.steps.specs.State.{Faulty, Outcome, rate_of}
+use Rattle.steps.specs.Faulty.{turned, struck, rolling, is_done, close_step, remove_step, remove_partition_step}
 use Rattle.reached.specs.Sound.{Sound, Distinct, name_of}
 use Rattle.reached.proofs.Lists.{found-passes}
-use Rattle.laws.specs.Ledger.{early_fault}
-use Rattle.laws.specs.Standing.{finds, gives}
-use Rattle.laws.proofs.Good.{turned-both, Early, early-some}
+use Rattle.laws.proofs.Good.{turned-both}
 use Rattle.laws.proofs.Syncs.{closing}
 use Rattle.laws.proofs.Removes.{taking_out}
 use Rattle.laws.proofs.Opens.{opened_ok}

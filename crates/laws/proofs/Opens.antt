@@ -1,33 +1,32 @@
 -- An open keeps bench and ledger together, in the injection layer and in the register above it.
-use Rattle.std.proofs.Common.{◌≡◌, ℕ, ◌+◌, ◌<◌, ◌≤◌, Bool, true, false, cond, ◌||◌, eqb, List, [], ◌∷◌, ◌++◌, length, is_some, Some, None, Ok, Err, Option, Result, sym, refl, ap, ◌∙◌, subst, arith}
+use Rattle.std.proofs.Common.{◌≡◌, ℕ, ◌+◌, ◌<◌, Bool, true, false, cond, ◌||◌, List, [], ◌∷◌, ◌++◌, is_some, Some, None, Ok, Err, Option, Result, sym, refl, ap, ◌∙◌, subst, arith}
 use Rattle.std.specs.List.{AllByRecursion as All}
-use Rattle.std.proofs.lemmas.Bool.{cond_both, eq-eqb, ne_eqb}
+use Rattle.std.proofs.lemmas.Bool.{eq-eqb, ne_eqb}
 use Rattle.fault.specs.declared.Op.TheVariants as Op
 use Rattle.fault.specs.declared.Fault.{Fault}
-use Rattle.fault.specs.declared.Fault.TheVariants.{TooLong, TableFull, BadPartition, AlreadyOpen, Injected}
+use Rattle.fault.specs.declared.Fault.TheVariants.{TooLong, TableFull, BadPartition, AlreadyOpen}
 use Rattle.draw.specs.Words.{Words, after, rolled, roll_taken}
 use Rattle.draw.specs.Sources.{tape_words}
 use Rattle.name.specs.Names.{is_partition}
-use Rattle.table.specs.Tables.{found, without}
+use Rattle.table.specs.Tables.{found}
 use Rattle.table.proofs.Keys.{found_push_other, found-push-new}
-use Rattle.store.specs.Meaning.{File, Handle, Disk, Volume, when_some, when_ok, refused}
+use Rattle.store.specs.Meaning.{File, Disk}
 use Rattle.store.specs.Live.{held_fault, handles_full, handles_with}
-use Rattle.store.specs.Durable.{generated, file_at, file_of, file_stands, new_file, opened_file, opened_volume, open_too_long, crowded}
-use Rattle.store.specs.Whole.{open_fault, open_answer, opened, size_of, closed_disk}
-use Rattle.steps.specs.Log.{Entry}
-use Rattle.steps.specs.State.{Faulty, Bench, Outcome, Lease, Size, rate_of, changed}
-use Rattle.steps.specs.Faulty.{turned, struck, rolling, done, is_size, sizes_with, open_step, close_step}
-use Rattle.steps.specs.Register.{leased, lifted, registered, open_call}
+use Rattle.store.specs.Durable.{generated, file_at, file_stands, new_file, opened_file, opened_volume, open_too_long, crowded}
+use Rattle.store.specs.Whole.{open_fault, opened, size_of}
+use Rattle.steps.specs.State.{Faulty, Bench, Outcome, rate_of, changed}
+use Rattle.steps.specs.Faulty.{struck, done, open_step, close_step}
+use Rattle.steps.specs.Register.{leased, lifted, registered}
 use Rattle.steps.specs.Calls.{Call, Open, Reply, Opened}
 use Rattle.reached.specs.Sound.{Sound}
 use Rattle.reached.proofs.Steps.{close-sound}
 use Rattle.reached.proofs.Runs.{open-sound}
 use Rattle.laws.specs.Pages.{Page, fix_whole}
-use Rattle.laws.specs.Ledger.{Ledger, early, known, followed, feed, open_pages, opens, turned as turned_page}
+use Rattle.laws.specs.Ledger.{known, followed, feed, open_pages, turned as turned_page}
 use Rattle.laws.specs.Promises.{taken}
 use Rattle.laws.proofs.Keeps.{Kept, kept_same, kept-made}
 use Rattle.laws.proofs.Good.{note_of, KeptIn, Good, good-as, Early, early-cond, unchanged, drawn}
-use Rattle.laws.proofs.Syncs.{fed-roll, held-early, closing}
+use Rattle.laws.proofs.Syncs.{fed-roll, closing}
 
 -- the store after an open that is accepted
 abbrev pub opened_ok : Disk → List ℕ → List ℕ → List ℕ → Disk

@@ -1,5 +1,5 @@
 -- After every list of calls bench and ledger are good together, and so the crash promise holds.
-use Rattle.std.proofs.Common.{◌≡◌, ℕ, zero, suc, ◌+◌, ◌<◌, Bool, true, false, cond, eqb, List, [], ◌∷◌, ◌++◌, map, length, get_or, Some, None, Option, sym, refl, ap, ◌∙◌, subst, arith}
+use Rattle.std.proofs.Common.{◌≡◌, ℕ, zero, suc, Bool, true, false, cond, eqb, List, [], ◌∷◌, ◌++◌, map, Some, None, Option, sym, refl, ap, ◌∙◌, subst, arith}
 use Rattle.std.specs.List.{ContainsAt as Has, AllByRecursion as All}
 use Rattle.std.proofs.lemmas.Bool.{eq-eqb, ne_eqb, cond-true, cond-false}
 use Rattle.draw.specs.Words.{Words}
@@ -7,18 +7,17 @@ use Rattle.table.specs.Tables.{found}
 use Rattle.store.specs.Meaning.{File, Volume, with_durable}
 use Rattle.store.specs.Durable.{generated, file_of}
 use Rattle.steps.specs.Log.{replayed}
-use Rattle.steps.specs.State.{Faulty, Bench, Outcome, fresh}
-use Rattle.steps.specs.Faulty.{open_step}
-use Rattle.steps.specs.Calls.{Call, Open, Remove, Scan, Read, Write, Resize, Size, Sync, StartSync, Settle, Close, Configure, Look, Crash, Restart, stretch, step, run_from, run}
+use Rattle.steps.specs.State.{Faulty, Bench, fresh}
+use Rattle.steps.specs.Calls.{Call, Open, Remove, Scan, Read, Write, Resize, Size, Sync, StartSync, Settle, Close, Configure, Look, Crash, Restart, stretch, step, run_from}
 use Rattle.reached.specs.Sound.{Sound, Distinct}
 use Rattle.reached.proofs.Steps.{empty-sound}
 use Rattle.laws.specs.Pages.{Page, held, Allowed}
-use Rattle.laws.specs.Ledger.{Ledger, blank, feed}
-use Rattle.laws.specs.Promises.{taken, Watched, watch, watched, begun, ledger, left, Same, Knows, LedgerKnows, CrashKept, CrashPromise}
+use Rattle.laws.specs.Ledger.{Ledger, feed}
+use Rattle.laws.specs.Promises.{taken, Watched, watch, watched, begun, ledger, left, Same, LedgerKnows, CrashPromise}
 use Rattle.laws.proofs.Replay.{crash-none, crash-sound}
-use Rattle.laws.proofs.Files.{keyed, file-generation}
-use Rattle.laws.proofs.Keeps.{Kept, kept-promise}
-use Rattle.laws.proofs.Good.{note_of, KeptIn, Good, good-as, scan_good, read-good, size-good, look-good, settle-good, configure-good, restart-good, crash-good}
+use Rattle.laws.proofs.Files.{keyed}
+use Rattle.laws.proofs.Keeps.{kept-promise}
+use Rattle.laws.proofs.Good.{note_of, KeptIn, Good, scan_good, read-good, size-good, look-good, settle-good, configure-good, restart-good, crash-good}
 use Rattle.laws.proofs.Syncs.{close-good, sync-good, start-good}
 use Rattle.laws.proofs.Resizes.{resize-good}
 use Rattle.laws.proofs.Writes.{write-good}

@@ -1,5 +1,5 @@
 -- Removals keep bench and ledger together.
-use Rattle.std.proofs.Common.{◌≡◌, ℕ, ◌+◌, ◌<◌, Bool, true, false, cond, not, ◌||◌, eqb, ltb, ◌⊎◌, List, [], ◌∷◌, map, length, Some, None, Ok, Err, filter, Option, Result, sym, refl, ap, ◌∙◌, inl, inr, arith}
+use Rattle.std.proofs.Common.{◌≡◌, ℕ, Bool, true, false, cond, not, ◌||◌, ◌⊎◌, List, [], ◌∷◌, Some, None, Ok, Err, filter, Option, sym, refl, ap, ◌∙◌, inl, inr, arith}
 use Rattle.std.specs.Option.{option_map}
 use Rattle.std.specs.List.{AllByRecursion as All}
 use Rattle.std.specs.Str.{bytes_eq}
@@ -19,7 +19,7 @@ use Rattle.steps.specs.Log.{Entry, dropped_all}
 use Rattle.steps.specs.State.{Faulty, Outcome, rate_of, changed}
 use Rattle.steps.specs.Faulty.{turned, struck, rolling, done, generations_of, remove_step, remove_partition_step}
 use Rattle.steps.specs.Calls.{Call, Remove, Reply, Told}
-use Rattle.reached.specs.Sound.{Sound, Distinct}
+use Rattle.reached.specs.Sound.{Sound}
 use Rattle.reached.proofs.Lists.{distinct-found, all-kept}
 use Rattle.reached.proofs.Steps.{remove-sound, remove-partition-sound}
 use Rattle.laws.specs.Pages.{Page}
@@ -27,7 +27,7 @@ use Rattle.laws.specs.Ledger.{early, known, followed, fed}
 use Rattle.laws.specs.Promises.{taken}
 use Rattle.laws.proofs.Files.{gone-without, gone-kept, file-generation}
 use Rattle.laws.proofs.Keeps.{Kept, kept-removed}
-use Rattle.laws.proofs.Good.{note_of, KeptIn, Good, good-as, Goes, Early, early-cond, turned-good, drawn}
+use Rattle.laws.proofs.Good.{note_of, KeptIn, good-as, Goes, Early, early-cond, turned-good, drawn}
 use Rattle.laws.proofs.Syncs.{fed-roll}
 
 -- a removal that succeeds has a file

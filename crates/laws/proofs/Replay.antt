@@ -1,7 +1,7 @@
 -- A crash, seen from one file: its changes since the last successful marker are replayed, each write with some selection.
-use Rattle.std.proofs.Common.{◌≡◌, ℕ, suc, ◌+◌, Bool, true, false, cond, ◌&&◌, eqb, leb, ◌⊎◌, List, [], ◌∷◌, length, Some, None, Option, sym, refl, ap, ◌∙◌, inl, inr, arith}
+use Rattle.std.proofs.Common.{◌≡◌, ℕ, suc, ◌+◌, Bool, true, false, cond, ◌&&◌, eqb, leb, List, [], ◌∷◌, length, Some, None, Option, refl, ap, ◌∙◌}
 use Rattle.std.specs.Option.{option_map}
-use Rattle.std.proofs.lemmas.Bool.{eqb-true, ne_eqb, eq-eqb, cond-false, cond-true, cond_both}
+use Rattle.std.proofs.lemmas.Bool.{eqb-true, eq-eqb, cond_both}
 use Rattle.draw.specs.Words.{Words, after}
 use Rattle.draw.specs.Selections.{prefix, subset, selected, select_taken}
 use Rattle.draw.specs.declared.select.PartialWriteMode.{PartialWriteMode}
@@ -10,7 +10,7 @@ use Rattle.content.specs.Bytes.{limit, cut, within}
 use Rattle.content.specs.Patches.{Patch, lay}
 use Rattle.store.specs.Meaning.{File, Volume, Disk, with_durable, with_volume}
 use Rattle.store.specs.Durable.{file_of, crash_written, crash_resized}
-use Rattle.steps.specs.Log.{Entry, Wrote, Resized, Marked, generation_in, marks, kept, replayed}
+use Rattle.steps.specs.Log.{Entry, Wrote, Resized, Marked, marks, kept, replayed}
 use Rattle.reached.specs.Sound.{Sound}
 use Rattle.reached.proofs.Keeps.{crash-write-sound, crash-resize-sound}
 use Rattle.laws.proofs.Stands.{Change, Put, Cut, Replays}

@@ -1,5 +1,5 @@
 -- A resize keeps bench and ledger together.
-use Rattle.std.proofs.Common.{◌≡◌, ℕ, ◌+◌, ◌-◌, ◌<◌, min, max, Bool, true, false, cond, ◌&&◌, ltb, leb, List, [], ◌∷◌, length, Some, None, Ok, Err, Option, Result, sym, refl, ap, ◌∙◌, arith}
+use Rattle.std.proofs.Common.{◌≡◌, ℕ, ◌+◌, ◌-◌, min, max, Bool, true, false, cond, ◌&&◌, ltb, leb, List, [], Some, None, Ok, Err, Option, refl, ap, ◌∙◌, arith}
 use Rattle.std.proofs.lemmas.Bool.{cond_both}
 use Rattle.fault.specs.declared.Op.TheVariants as Op
 use Rattle.fault.specs.declared.Fault.{Fault}
@@ -7,21 +7,21 @@ use Rattle.fault.specs.declared.Fault.TheVariants.{NoHandle, NoSpace, LogFull, I
 use Rattle.draw.specs.Words.{Words, after, rolled, roll_taken, picked, pick_taken}
 use Rattle.draw.specs.Sources.{tape_words}
 use Rattle.content.specs.Bytes.{limit}
-use Rattle.store.specs.Meaning.{Handle, Disk, Done, with_handles, when_some, when_ok, refused}
+use Rattle.store.specs.Meaning.{Handle, Done, with_handles, when_some}
 use Rattle.store.specs.Live.{handle_at, resize_fault, live_resized}
-use Rattle.store.specs.Whole.{resize_answer, resized}
-use Rattle.steps.specs.Log.{Entry, Resized, recorded}
+use Rattle.store.specs.Whole.{resized}
+use Rattle.steps.specs.Log.{Resized, recorded}
 use Rattle.steps.specs.State.{Faulty, Outcome, ResizeRates, least, changed}
-use Rattle.steps.specs.Faulty.{turned, struck, done, size_in, sized_to, full_fault, log_for, resizing, failing_resize, resize_step}
-use Rattle.steps.specs.Calls.{Call, Resize, Reply, Told}
+use Rattle.steps.specs.Faulty.{struck, done, size_in, sized_to, full_fault, resizing, failing_resize, resize_step}
+use Rattle.steps.specs.Calls.{Resize, Told}
 use Rattle.reached.specs.Sound.{Sound}
 use Rattle.reached.proofs.Steps.{resize-sound}
 use Rattle.laws.specs.Pages.{Page, mark_all}
-use Rattle.laws.specs.Ledger.{Ledger, early, early_fault, known, feed, followed, resize_recorded, is_accepted, of_handle, turned as turned_page}
+use Rattle.laws.specs.Ledger.{early, known, followed, resize_recorded, is_accepted, of_handle, turned as turned_page}
 use Rattle.laws.specs.Promises.{taken}
-use Rattle.laws.proofs.Keeps.{Kept, kept_same, kept-mark}
+use Rattle.laws.proofs.Keeps.{Kept, kept-mark}
 use Rattle.laws.proofs.Draws.{Upto, upto-first, upto_rest, rolled-upto, picked-upto, tape-upto}
-use Rattle.laws.proofs.Good.{note_of, KeptIn, Good, good-as, Goes, goes-as, Early, early-least, early-cond, early-some, least-none, turned-good, drawn, held-handle}
+use Rattle.laws.proofs.Good.{note_of, KeptIn, Good, good-as, Goes, goes-as, Early, early-least, early-cond, least-none, turned-good, drawn, held-handle}
 
 resize-early : (hs : List Handle) (h len : ℕ) → Early (resize_fault hs h len)
 resize-early hs h len = go (handle_at hs h)

@@ -1,18 +1,18 @@
 -- The runs of a failing write: each is a SYNC write of the store, and together they leave the bytes of the selection.
-use Rattle.std.proofs.Common.{◌≡◌, ℕ, suc, ◌+◌, ◌<◌, ◌≤◌, Bool, true, false, cond, eqb, ltb, leb, ◌⊎◌, List, [], ◌∷◌, length, Some, None, Ok, Err, Option, Result, sym, refl, ap, ◌∙◌, inl, inr, add-suc, arith}
+use Rattle.std.proofs.Common.{◌≡◌, ℕ, suc, ◌+◌, ◌≤◌, Bool, true, false, cond, eqb, ◌⊎◌, List, [], ◌∷◌, length, Some, None, Ok, Err, Option, sym, refl, ap, ◌∙◌, inl, inr, add-suc, arith}
 use Rattle.std.specs.Option.{option_map}
 use Rattle.std.specs.List.{AllByRecursion as All}
 use Rattle.std.proofs.ByRecursion.{All-weaker}
-use Rattle.std.proofs.lemmas.Bool.{eqb-true, ne_eqb, eq-eqb, le-leb, le-ltb, cond_both}
+use Rattle.std.proofs.lemmas.Bool.{eqb-true, le-leb, le-ltb}
 use Rattle.fault.specs.declared.Fault.{Fault}
-use Rattle.fault.specs.declared.Fault.TheVariants.{NoHandle, TooLong, NoSpace, BlobMissing}
+use Rattle.fault.specs.declared.Fault.TheVariants.{BlobMissing}
 use Rattle.content.specs.Bytes.{limit, written}
 use Rattle.content.specs.Patches.{Patch}
-use Rattle.table.specs.Tables.{found, amended}
+use Rattle.table.specs.Tables.{found}
 use Rattle.table.proofs.Keys.{found-amended}
 use Rattle.table.proofs.Finds.{amended-none}
-use Rattle.store.specs.Meaning.{File, Handle, Volume, Disk, Done, with_durable, with_live, with_handles, with_volume, when_some, refused}
-use Rattle.store.specs.Live.{numbered, handle_at, write_fault, write_limit, live_written}
+use Rattle.store.specs.Meaning.{File, Handle, Volume, Disk, Done, with_durable, with_live, with_volume, when_some}
+use Rattle.store.specs.Live.{numbered, handle_at, write_fault, write_limit}
 use Rattle.store.specs.Durable.{generated, file_of, keep_answer, durable_written}
 use Rattle.store.specs.Whole.{write_answer, wrote, written_live, written_durable}
 use Rattle.steps.specs.Log.{whole, idle}

@@ -1,11 +1,11 @@
 -- What a crash would replay of one generation: its changes since its last successful marker, and how the log's own changes
 -- change them.
-use Rattle.std.proofs.Common.{◌≡◌, ℕ, suc, ◌+◌, Bool, true, false, cond, not, ◌&&◌, eqb, leb, ◌⊎◌, List, [], ◌∷◌, ◌++◌, length, Some, None, filter, sym, refl, ap, ◌∙◌, inl, inr, add-suc, arith}
+use Rattle.std.proofs.Common.{◌≡◌, ℕ, suc, ◌+◌, Bool, true, false, cond, not, ◌&&◌, eqb, leb, ◌⊎◌, List, [], ◌∷◌, ◌++◌, length, sym, refl, ap, ◌∙◌, inl, inr, add-suc}
 use Rattle.std.specs.List.{AllByRecursion as All}
-use Rattle.std.proofs.lemmas.Bool.{eqb-true, eqb-false, ne_eqb, eq-eqb, cases_eq, cases_Bool, cond-true, cond-false, cond_both, and_left, and_parts, false≢true}
+use Rattle.std.proofs.lemmas.Bool.{eqb-true, eqb-false, ne_eqb, eq-eqb, cases_eq, cond-true, cond-false, cond_both, false≢true}
 use Rattle.content.specs.Bytes.{limit}
 use Rattle.content.specs.Patches.{Patch}
-use Rattle.steps.specs.Log.{Entry, Wrote, Resized, Marked, generation_in, recorded, cleared, covers, idle, tightened, resizes, fixed, dropped, dropped_all, retires, is_marker, settled, marks}
+use Rattle.steps.specs.Log.{Entry, Wrote, Resized, Marked, generation_in, recorded, cleared, covers, idle, tightened, resizes, fixed, dropped, dropped_all, retires, is_marker, settled}
 use Rattle.draw.specs.declared.select.PartialWriteMode.TheVariants.{Prefix}
 use Rattle.laws.proofs.Places.{covers-shift}
 use Rattle.laws.proofs.Stands.{Change, Put, Cut, cleared_all, Calm, appended}

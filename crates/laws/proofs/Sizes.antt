@@ -1,27 +1,24 @@
 -- What the bench keeps as a handle's size is the count of its live bytes, while its file stands.
-use Rattle.std.proofs.Common.{◌≡◌, ℕ, suc, ◌+◌, ◌-◌, ◌<◌, ◌≤◌, max, Bool, true, false, cond, eqb, ◌⊎◌, List, [], ◌∷◌, ◌++◌, length, is_some, Some, None, Ok, Err, Option, Result, sym, refl, ap, ◌∙◌, subst, inl, inr, arith}
+use Rattle.std.proofs.Common.{◌≡◌, ℕ, ◌+◌, ◌<◌, max, Bool, true, false, ◌⊎◌, List, [], ◌∷◌, length, Some, None, Ok, Err, Option, sym, refl, ap, ◌∙◌, subst, inl, inr, arith}
 use Rattle.std.specs.Option.{option_map}
 use Rattle.std.specs.List.{AllByRecursion as All}
-use Rattle.std.proofs.ByRecursion.{All-weaker, All-push}
-use Rattle.std.proofs.lemmas.Bool.{eqb-true, eq-eqb, ne_eqb, cases_eq, cond_both}
+use Rattle.std.proofs.lemmas.Bool.{eqb-true, ne_eqb, cases_eq}
 use Rattle.fault.specs.declared.Fault.{Fault}
 use Rattle.fault.specs.declared.Fault.TheVariants.{NoHandle, BlobMissing}
 use Rattle.content.specs.Bytes.{written, cut}
 use Rattle.content.proofs.Lengths.{length-written, length_cut}
-use Rattle.table.specs.Tables.{found, amended, without}
-use Rattle.table.proofs.Keys.{found-amended, found-amended-other, found-without-other, found_push_other, found-push-new, found-push-same}
-use Rattle.table.proofs.Finds.{amended-none, without-none}
-use Rattle.store.specs.Meaning.{File, Handle, Disk, Volume, Done, with_durable, with_live, with_handles, with_volume, when_some, when_ok, refused}
-use Rattle.store.specs.Live.{numbered, handle_at, write_fault, resize_fault, live_written, live_resized, handles_with, closed}
-use Rattle.store.specs.Durable.{generated, file_of, keep_answer, durable_written}
+use Rattle.table.specs.Tables.{found, amended}
+use Rattle.table.proofs.Keys.{found-amended, found-amended-other}
+use Rattle.store.specs.Meaning.{File, Handle, Disk, Volume, Done, with_durable, with_live, with_volume, when_some, when_ok}
+use Rattle.store.specs.Live.{numbered, handle_at, write_fault, resize_fault}
+use Rattle.store.specs.Durable.{file_of, durable_written}
 use Rattle.store.specs.Whole.{write_answer, wrote, written_live, resize_answer, resized}
 use Rattle.steps.specs.State.{Size}
-use Rattle.steps.specs.Faulty.{is_size, grown, sized_to, Ran, ran_on, ran}
-use Rattle.reached.specs.Sound.{Distinct}
-use Rattle.reached.proofs.Lists.{all-amended, all_without}
+use Rattle.steps.specs.Faulty.{is_size, grown, sized_to, ran_on, ran}
+use Rattle.reached.proofs.Lists.{all-amended}
 use Rattle.laws.proofs.Places.{none-some}
 use Rattle.laws.proofs.Since.{split}
-use Rattle.laws.proofs.Files.{changed_in, changed-same, changed-other, gone-without}
+use Rattle.laws.proofs.Files.{changed_in, changed-same, changed-other}
 use Rattle.laws.proofs.Writes.{writable}
 use Rattle.laws.proofs.Runs.{sync-answer, sync-wrote}
 

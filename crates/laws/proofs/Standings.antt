@@ -1,28 +1,28 @@
 -- Every call, and so every list of calls, leaves standing what its answers say.
-use Rattle.std.proofs.Common.{◌≡◌, ℕ, ◌+◌, Bool, true, false, cond, ◌&&◌, eqb, leb, ◌⊎◌, List, [], ◌∷◌, ◌++◌, map, is_some, Some, None, Ok, Err, Option, Result, sym, refl, ap, ◌∙◌, subst, inl, inr, arith}
+use Rattle.std.proofs.Common.{◌≡◌, ℕ, Bool, true, false, cond, ◌&&◌, eqb, ◌⊎◌, List, [], ◌∷◌, ◌++◌, map, is_some, Some, None, Ok, Err, Option, Result, sym, refl, ap, ◌∙◌, subst, inl, inr, arith}
 use Rattle.std.specs.Str.{bytes_eq}
 use Rattle.std.proofs.lemmas.Bool.{cond-true, cond-false, cases_eq, eq-eqb, ne_eqb, leb-true, and_from, and_right, and_left}
 use Rattle.fault.specs.Numbers.{number}
 use Rattle.fault.specs.declared.Op.TheVariants as Op
 use Rattle.fault.specs.declared.Fault.{Fault}
-use Rattle.fault.specs.declared.Fault.TheVariants.{BadPartition, BadRate, AlreadyOpen, Injected}
-use Rattle.draw.specs.Words.{Words, rolled, roll_taken}
+use Rattle.fault.specs.declared.Fault.TheVariants.{BadPartition, AlreadyOpen, Injected}
+use Rattle.draw.specs.Words.{rolled, roll_taken}
 use Rattle.name.specs.Names.{is_partition}
 use Rattle.table.specs.Tables.{found}
 use Rattle.store.specs.Meaning.{File, Handle, Disk, Done}
 use Rattle.store.specs.Live.{handle_at}
 use Rattle.store.specs.Durable.{file_at, file_stands, remove_fault, remove_partition_fault}
 use Rattle.store.specs.Whole.{open_fault}
-use Rattle.steps.specs.State.{Size as Kept, Faulty, Bench, Outcome, Rates, Ticket, rate_of, fresh}
-use Rattle.steps.specs.Faulty.{turned, struck, done, is_done, open_step, close_step, remove_step, remove_partition_step, settle_step, configure_step, bad_rates}
-use Rattle.steps.specs.Register.{leased, lifted, open_call}
-use Rattle.steps.specs.Calls.{Call, Open, Remove, Scan, Read, Write, Resize, Size, Sync, StartSync, Settle, Close, Configure, Look, Crash, Restart, Reply, Opened, Turn, stretch, step, run_from, run}
+use Rattle.steps.specs.State.{Size as Kept, Faulty, Bench, Outcome, Rates, Ticket, rate_of}
+use Rattle.steps.specs.Faulty.{struck, done, is_done, open_step, close_step, remove_step, remove_partition_step, settle_step, configure_step, bad_rates}
+use Rattle.steps.specs.Register.{leased, lifted}
+use Rattle.steps.specs.Calls.{Call, Open, Remove, Scan, Read, Write, Resize, Size, Sync, StartSync, Settle, Close, Configure, Look, Crash, Restart, Reply, Opened, stretch, step, run_from}
 use Rattle.reached.specs.Sound.{Sound}
 use Rattle.reached.proofs.Runs.{open-sound}
-use Rattle.laws.specs.Ledger.{Ledger, early_fault}
+use Rattle.laws.specs.Ledger.{early_fault}
 use Rattle.laws.specs.Promises.{Watched, watch, watched, begun, ledger, left}
-use Rattle.laws.specs.Standing.{finds, gives, stands_after, held_after, stands_by, held_by, Standing, StandingPromise}
-use Rattle.laws.proofs.Good.{Good, Quiet, scan-quiet, read-quiet, size-quiet, look-quiet, settling, configuring, Early, early-some}
+use Rattle.laws.specs.Standing.{stands_after, held_after, stands_by, held_by, StandingPromise}
+use Rattle.laws.proofs.Good.{Good, Quiet, scan-quiet, read-quiet, size-quiet, look-quiet, settling, configuring, Early}
 use Rattle.laws.proofs.Opens.{opened_ok, accepted, told, opened-ok, open-refused, open-struck, open-bad, open-ok, open-early}
 use Rattle.laws.proofs.Walks.{after-turned, after-rolling}
 use Rattle.laws.proofs.Promise.{GoodNow, watch-good, all-good, watched-bench}

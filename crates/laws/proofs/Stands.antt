@@ -1,6 +1,6 @@
 -- One place of one file: what holds between its cell, its durable byte and the changes that a crash would replay, and that
 -- a crash then leaves what the cell allows.
-use Rattle.std.proofs.Common.{◌≡◌, ℕ, zero, suc, ◌<◌, Bool, true, false, cond, ◌⊎◌, List, [], ◌∷◌, length, is_some, Some, None, Option, sym, refl, ap, ◌∙◌, inl, inr, arith}
+use Rattle.std.proofs.Common.{◌≡◌, ℕ, suc, Bool, true, false, cond, ◌⊎◌, List, [], ◌∷◌, is_some, Some, None, Option, refl, ap, ◌∙◌, inl, inr, arith}
 use Rattle.std.specs.List.{ContainsAt as Has}
 use Rattle.content.specs.Bytes.{cut}
 use Rattle.content.specs.Patches.{Patch, lay}

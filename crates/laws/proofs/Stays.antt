@@ -1,24 +1,18 @@
 -- Which files stand and which handles are held after every call.
-use Rattle.std.proofs.Common.{◌≡◌, ℕ, ◌+◌, ◌<◌, Bool, true, false, cond, not, ◌&&◌, eqb, ◌⊎◌, List, [], ◌∷◌, ◌++◌, map, length, is_some, Some, None, Ok, Err, filter, Option, Result, sym, refl, ap, ◌∙◌, subst, inl, inr, arith}
-use Rattle.std.specs.Option.{option_map}
-use Rattle.std.specs.List.{AllByRecursion as All}
-use Rattle.std.specs.Str.{bytes_eq}
-use Rattle.std.proofs.lemmas.Slice.Eq.{bytes_eq-Decides}
-use Rattle.std.proofs.lemmas.Bool.{cond_both, cond-true, cond-false, eq-eqb, ne_eqb, cases_eq, cases_Bool, eqb-true, both_ways, and_parts, and_cases, and_from, not-true, not_from_true, not_from_false, false≢true}
-use Rattle.fault.specs.declared.Op.TheVariants as Op
+use Rattle.std.proofs.Common.{◌≡◌, ℕ, ◌+◌, Bool, true, false, cond, List, [], ◌∷◌, length, is_some, Some, None, Ok, Err, Option, refl, ap, ◌∙◌}
+use Rattle.std.proofs.lemmas.Bool.{cond_both}
 use Rattle.fault.specs.declared.Fault.{Fault}
 use Rattle.draw.specs.Words.{Words, after}
 use Rattle.draw.specs.Selections.{selected, select_taken}
 use Rattle.content.specs.Bytes.{written, cut, within}
 use Rattle.content.specs.Patches.{lay}
-use Rattle.table.specs.Tables.{found, amended, without}
-use Rattle.table.proofs.Keys.{found-amended, found-amended-other, found-without-other, found-without-none, found-removed, found-kept, found-kept-none, found_push_other, found-push-new, found-push-same}
-use Rattle.store.specs.Meaning.{File, Handle, Disk, Volume, Done, with_durable, with_live, with_files, with_handles, with_volume, when_some, when_ok, refused}
-use Rattle.store.specs.Live.{numbered, handle_at, closed, held_fault, write_fault, resize_fault}
-use Rattle.store.specs.Durable.{named, in_partition, generated, file_at, file_of, file_stands, new_file, opened_volume, durable_written, durable_replaced, crash_written, crash_resized, remove_fault, remove_answer, removed, remove_partition_fault, remove_partition_answer, removed_partition}
-use Rattle.store.specs.Whole.{write_answer, wrote, written_live, written_durable, resize_answer, resized, synced, closed_disk}
+use Rattle.table.specs.Tables.{found, amended}
+use Rattle.store.specs.Meaning.{File, Handle, Disk, Volume, Done, with_durable, with_live, with_files, with_handles, with_volume, when_some, when_ok}
+use Rattle.store.specs.Live.{numbered, handle_at, write_fault}
+use Rattle.store.specs.Durable.{named, generated, file_stands, durable_written, durable_replaced, crash_written, crash_resized}
+use Rattle.store.specs.Whole.{write_answer, wrote, written_live, written_durable, resize_answer, resized, synced}
 use Rattle.steps.specs.Log.{Entry, Wrote, Resized, Marked, marks, kept, replayed}
-use Rattle.steps.specs.State.{Faulty, Bench, Outcome, Size, rate_of}
+use Rattle.steps.specs.State.{Faulty, Size}
 use Rattle.steps.specs.Faulty.{grown, ran, write_step, resize_step, sync_step, start_sync_step}
 use Rattle.laws.proofs.Runs.{ran_on-keeps}
 use Rattle.laws.proofs.Walks.{write-walk, resize-walk, sync-walk, start-walk}

@@ -1,32 +1,32 @@
 -- Close, sync and start_sync keep bench and ledger together.
-use Rattle.std.proofs.Common.{◌≡◌, ℕ, ◌+◌, ◌<◌, Bool, true, false, cond, ◌&&◌, ◌||◌, eqb, leb, List, [], ◌∷◌, ◌++◌, length, Some, None, Ok, Err, Option, Result, sym, refl, ap, ◌∙◌, arith}
+use Rattle.std.proofs.Common.{◌≡◌, ℕ, true, false, cond, List, [], Some, None, Ok, Err, Option, Result, sym, refl, ap, ◌∙◌, arith}
 use Rattle.std.specs.Option.{option_map}
 use Rattle.std.proofs.lemmas.Bool.{cond_both, eq-eqb}
 use Rattle.fault.specs.declared.Op.TheVariants as Op
 use Rattle.fault.specs.declared.Fault.{Fault}
 use Rattle.fault.specs.declared.Fault.TheVariants.{NoHandle, BlobMissing, TicketsFull, LogFull, Injected}
-use Rattle.draw.specs.Words.{Words, after, rolled, roll_taken}
+use Rattle.draw.specs.Words.{after, rolled, roll_taken}
 use Rattle.draw.specs.Sources.{tape_words}
 use Rattle.table.specs.Tables.{found, without}
 use Rattle.table.proofs.Finds.{amended-none}
-use Rattle.store.specs.Meaning.{File, Handle, Disk, Volume, Done, with_durable, with_volume, when_some, when_ok, refused}
+use Rattle.store.specs.Meaning.{File, Handle, Done, with_durable, with_volume, when_some, when_ok, refused}
 use Rattle.store.specs.Live.{handle_at, held_fault}
 use Rattle.store.specs.Durable.{generated, file_of, keep_answer, durable_replaced}
 use Rattle.store.specs.Whole.{closed_disk, sync_answer, synced}
-use Rattle.steps.specs.Log.{Entry, Marked, recorded, dropped, log_full}
+use Rattle.steps.specs.Log.{Entry, Marked, recorded, dropped}
 use Rattle.steps.specs.State.{Faulty, Outcome, rate_of, least, changed}
 use Rattle.steps.specs.Faulty.{turned, struck, rolling, done, is_size, close_step, sync_step, tickets_fault, full_fault, ticketed, is_done, log_for, start_sync_step}
-use Rattle.steps.specs.Calls.{Call, Close, Sync, StartSync, Reply, Counted, Told}
+use Rattle.steps.specs.Calls.{Close, Sync, StartSync, Counted, Told}
 use Rattle.reached.specs.Sound.{Sound}
 use Rattle.reached.proofs.Steps.{close-sound, sync-sound}
 use Rattle.laws.specs.Pages.{Page, fix_whole}
-use Rattle.laws.specs.Ledger.{Ledger, early, early_fault, known, feed, turned as turned_page}
+use Rattle.laws.specs.Ledger.{known, turned as turned_page}
 use Rattle.laws.specs.Promises.{taken}
 use Rattle.laws.proofs.Since.{since, since-dropped, since-dropped-other, since-recorded, since-recorded-other, split}
 use Rattle.laws.proofs.Files.{changed-same, changed-other}
 use Rattle.laws.proofs.Keeps.{Kept, kept_same, kept_whole}
 use Rattle.laws.proofs.Draws.{rolled-upto, tape-upto}
-use Rattle.laws.proofs.Good.{note_of, KeptIn, Good, good, good-as, Goes, goes-as, Early, early-least, early-cond, turned-good, least-none, unchanged, drawn, Held, held-handle}
+use Rattle.laws.proofs.Good.{note_of, KeptIn, good-as, Goes, goes-as, Early, early-least, early-cond, turned-good, least-none, unchanged, drawn, held-handle}
 
 pub held-early : (hs : List Handle) (h : ℕ) → Early (held_fault hs h)
 held-early hs h = go (handle_at hs h)

@@ -1,5 +1,5 @@
 -- What holds of store and sizes after a call, from what holds after the store's own calls.
-use Rattle.std.proofs.Common.{ℕ, ◌+◌, ◌-◌, min, max, Bool, true, false, cond, ◌&&◌, ltb, List, [], length, Some, None, Ok, Err, Option, Result}
+use Rattle.std.proofs.Common.{ℕ, ◌+◌, ◌-◌, min, max, Bool, true, false, ◌&&◌, ltb, List, [], length, Some, None, Ok, Err, Option, Result}
 use Rattle.std.proofs.lemmas.Bool.{cond_both}
 use Rattle.fault.specs.declared.Op.{Op as Operation}
 use Rattle.fault.specs.declared.Op.TheVariants as Op

@@ -1,8 +1,8 @@
 -- A write keeps bench and ledger together.
-use Rattle.std.proofs.Common.{◌≡◌, ℕ, suc, ◌+◌, ◌^◌, ◌<◌, ◌≤◌, Bool, true, false, cond, not, ◌&&◌, eqb, ltb, leb, ◌⊎◌, List, [], ◌∷◌, length, Some, None, Ok, Err, Option, Result, sym, refl, ap, ◌∙◌, inl, inr, arith}
+use Rattle.std.proofs.Common.{◌≡◌, ℕ, suc, ◌+◌, ◌^◌, ◌≤◌, Bool, true, false, cond, not, ◌&&◌, eqb, ltb, leb, ◌⊎◌, List, [], ◌∷◌, length, Some, None, Ok, Err, Option, sym, refl, ap, ◌∙◌, inl, inr, arith}
 use mathlib.Core.Path.{fun_ext}
 use Rattle.std.specs.Option.{option_map}
-use Rattle.std.proofs.lemmas.Bool.{cond_both, leb-true, le-leb, ltb-false, false≢true}
+use Rattle.std.proofs.lemmas.Bool.{cond_both, le-leb, false≢true}
 use Rattle.std.proofs.lemmas.Bool.Decides.{nat_tests}
 use Rattle.fault.specs.declared.Op.TheVariants as Op
 use Rattle.fault.specs.declared.Fault.{Fault}
@@ -15,25 +15,25 @@ use Rattle.content.specs.Patches.{Patch, patch}
 use Rattle.content.proofs.Lays.{length-patch}
 use Rattle.table.specs.Tables.{found}
 use Rattle.table.proofs.Finds.{amended-none}
-use Rattle.store.specs.Meaning.{File, Handle, Disk, Volume, Done, with_durable, with_volume, when_some, when_ok, refused}
+use Rattle.store.specs.Meaning.{File, Handle, Disk, Done, with_durable, with_volume, when_some, refused}
 use Rattle.store.specs.Live.{handle_at, held_fault, write_fault, write_limit}
-use Rattle.store.specs.Durable.{generated, file_of, keep_answer, durable_written}
-use Rattle.store.specs.Whole.{write_answer, wrote, written_live}
+use Rattle.store.specs.Durable.{generated, file_of, durable_written}
+use Rattle.store.specs.Whole.{written_live}
 use Rattle.store.proofs.Faults.{write-fits}
 use Rattle.steps.specs.Log.{Entry, Wrote, recorded, whole, idle, fixed}
-use Rattle.steps.specs.State.{Faulty, Outcome, Size, WriteRates, rate_of, write_failure, retention, least, changed}
-use Rattle.steps.specs.Faulty.{turned, struck, done, grown, is_empty, overflow, full_fault, write_refusal, log_for, runs, Ran, ran, failing_write, recording, writing, good_write, write_step}
-use Rattle.steps.specs.Calls.{Call, Write, Reply, Told}
+use Rattle.steps.specs.State.{Faulty, Outcome, WriteRates, rate_of, write_failure, retention, least, changed}
+use Rattle.steps.specs.Faulty.{struck, done, grown, is_empty, overflow, full_fault, write_refusal, log_for, runs, Ran, ran, failing_write, recording, writing, good_write, write_step}
+use Rattle.steps.specs.Calls.{Write, Told}
 use Rattle.reached.specs.Sound.{Sound}
 use Rattle.reached.proofs.Steps.{write-sound}
 use Rattle.laws.specs.Pages.{Page, held, reach, fix_range, put_range}
-use Rattle.laws.specs.Ledger.{Ledger, early, known, feed, followed, survived, fixes, puts, write_pages, of_handle, turned as turned_page}
+use Rattle.laws.specs.Ledger.{Ledger, early, known, followed, puts, write_pages, of_handle, turned as turned_page}
 use Rattle.laws.specs.Promises.{taken}
 use Rattle.laws.proofs.Places.{Over, none-some, written_over}
 use Rattle.laws.proofs.Files.{changed-same, changed-other}
 use Rattle.laws.proofs.Keeps.{Kept, kept_same, kept_put, kept-fix}
-use Rattle.laws.proofs.Draws.{Upto, upto-first, upto_rest, rolled-upto, selected-upto, tape-upto}
-use Rattle.laws.proofs.Runs.{sync-answer, sync-wrote, plain-answer, plain-wrote, runs-landed, runs-lost, runs-idle, runs-reach, ran-sound, ran-generations}
+use Rattle.laws.proofs.Draws.{upto-first, upto_rest, rolled-upto, selected-upto, tape-upto}
+use Rattle.laws.proofs.Runs.{sync-wrote, plain-wrote, runs-landed, runs-lost, runs-idle, runs-reach, ran-sound, ran-generations}
 use Rattle.laws.proofs.Good.{note_of, KeptIn, Good, good-as, Goes, goes-as, cond_same, Early, early-least, early-cond, least-none, turned-good, unchanged, drawn, held-handle}
 use Rattle.laws.proofs.Syncs.{held-early}
 

@@ -1,6 +1,6 @@
 -- The ledger: an observer that is fed the calls, their answers, the words that they took and, after a crash, the store's
 -- files. It keeps rates, sizes and a store of its own, and a page for each generation; it never sees the log.
-use Rattle.std.specs.Prelude.{ℕ, zero, suc, ◌+◌, ◌-◌, min, max, Bool, true, false, cond, ◌&&◌, List, [], ◌∷◌, length, Some, None, Ok, Err, Option, Result, ◌==◌, nat_eq, nat_le, nat_lt}
+use Rattle.std.specs.Prelude.{ℕ, ◌+◌, ◌-◌, min, max, Bool, true, false, cond, ◌&&◌, List, [], length, Some, None, Ok, Err, Option, Result, ◌==◌, nat_eq, nat_le, nat_lt}
 use Rattle.fault.specs.Numbers.{number, operation, detail}
 use Rattle.fault.specs.declared.Op.{Op}
 use Rattle.fault.specs.declared.Op.TheVariants as op
@@ -9,7 +9,7 @@ use Rattle.draw.specs.Words.{Words, after, rolled, roll_taken}
 use Rattle.draw.specs.Sources.{tape_words}
 use Rattle.draw.specs.Selections.{selected}
 use Rattle.content.specs.Patches.{Patch, patch}
-use Rattle.store.specs.Meaning.{File, Handle, Disk, Done, empty_disk, with_files, with_volume, when_some}
+use Rattle.store.specs.Meaning.{File, Handle, Disk, empty_disk, with_files, with_volume, when_some}
 use Rattle.store.specs.Live.{handle_at}
 use Rattle.store.specs.Durable.{file_of, file_stands}
 use Rattle.store.specs.Whole.{sync_answer}
@@ -17,7 +17,7 @@ use Rattle.steps.specs.Log.{whole}
 use Rattle.steps.specs.State.{Rates, unset, rate_of, write_failure, retention, Size, Faulty, Outcome}
 use Rattle.steps.specs.Faulty.{size_in, open_step, remove_step, remove_partition_step, write_step, resize_step, sync_step, start_sync_step, close_step, configure_step, restart_step, is_done}
 use Rattle.steps.specs.Calls.{Call, Open, Remove, Scan, Read, Write, Resize, Size as AskSize, Sync, StartSync, Settle, Close, Configure, Look, Crash, Restart, Reply, Opened, Counted, Told}
-use Rattle.laws.specs.Pages.{Page, held, fix_whole, fix_range, put_range, mark_all}
+use Rattle.laws.specs.Pages.{Page, fix_whole, fix_range, put_range, mark_all}
 
 -- What the ledger keeps: rates, sizes, a store, and a page for each generation.
 pub record Ledger : Type 0 where

@@ -1,5 +1,5 @@
 -- The promises, over every list of calls on a fresh bench, with any arguments and any words.
-use Rattle.std.specs.Prelude.{◌≡◌, ℕ, zero, suc, ◌+◌, ◌<◌, ◌≤◌, true, false, List, [], ◌∷◌, ◌++◌, length, Some, None, Ok, Err, Decides, ◌≢◌}
+use Rattle.std.specs.Prelude.{◌≡◌, ℕ, zero, suc, ◌+◌, ◌<◌, ◌≤◌, true, false, List, [], ◌∷◌, ◌++◌, length, Some, Ok, Err, Decides, ◌≢◌}
 use Rattle.std.specs.List.{ContainsAt as Has}
 use Rattle.fault.specs.declared.Op.TheVariants as op
 use Rattle.fault.specs.declared.Fault.TheVariants.{Injected}

@@ -1,15 +1,15 @@
 -- Three wrong logs, each with a list of calls. The calls go by the right steps up to the crash; the wrong log is what the
 -- crash would replay. By two of them it leaves what the crash promise rules out, by the third another file than the right one.
-use Rattle.std.specs.Prelude.{◌≡◌, ℕ, Bool, true, false, cond, List, [], ◌∷◌, ◌++◌, map, drop, Some, None}
+use Rattle.std.specs.Prelude.{◌≡◌, ℕ, true, false, cond, List, [], ◌∷◌, ◌++◌, map, drop, Some, None}
 use Rattle.draw.specs.Sources.{tape_words}
 use Rattle.draw.specs.declared.select.PartialWriteMode.{PartialWriteMode}
 use Rattle.draw.specs.declared.select.PartialWriteMode.TheVariants.{Prefix}
 use Rattle.content.specs.Patches.{Patch}
 use Rattle.steps.specs.Log.{Entry, Wrote, Resized, Marked, whole, covers, tightened, resizes, replayed}
-use Rattle.steps.specs.State.{Rates, Faulty}
+use Rattle.steps.specs.State.{Faulty}
 use Rattle.steps.specs.Faulty.{runs}
 use Rattle.steps.specs.Cases.{write_rates, resize_rates}
-use Rattle.steps.specs.Calls.{Call, Open, Write, Resize, Configure, Crash}
+use Rattle.steps.specs.Calls.{Call, Open, Write, Resize, Configure}
 use Rattle.laws.specs.Pages.{Cell, Allowed}
 use Rattle.laws.specs.Promises.{ledger, left}
 

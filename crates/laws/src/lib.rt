@@ -1,4 +1,6 @@
 //! The promises about every list of calls on a fresh bench, each demanded by the contract of a function.
+#![tactic(auto)]
+
 ghost use Rattle.laws.specs.Promises.{Agreement, CrashPromise, LedgerKnows, SizePromise};
 ghost use Rattle.laws.specs.Standing.{StandingPromise};
 ghost use Rattle.laws.specs.Variants.{VariantsFail};

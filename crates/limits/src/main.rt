@@ -1,5 +1,7 @@
 //! Calls on the memory store at every limit, and a line with the answer of each. The file `stdout` has what it must print;
 //! `data/expected.py` made it.
+#![tactic(auto)]
+
 use memory::rows::Memory;
 use script::{Step, make};
 use std::io;

@@ -1,12 +1,12 @@
 -- What the place of a partition or a file, or its fault, says of a call.
-use Rattle.std.proofs.Common.{◌≡◌, ℕ, Bool, true, false, cond, List, is_some, Some, None, Ok, Err, Option, Result, sym, refl, ap, ◌∙◌, arith}
+use Rattle.std.proofs.Common.{◌≡◌, ℕ, Bool, true, false, List, is_some, Some, None, Ok, Err, Option, Result, sym, refl, ap, ◌∙◌, arith}
 use Rattle.std.specs.Option.{ok_or}
 use Rattle.std.specs.Str.{bytes_eq}
 use Rattle.std.proofs.lemmas.Bool.{cond-true, cond-false, both_ways}
 use Rattle.fault.specs.declared.Fault.{Fault}
 use Rattle.fault.specs.declared.Fault.TheVariants.{BadPartition, PartitionMissing, BlobMissing}
 use Rattle.name.specs.Names.{is_partition}
-use Rattle.table.specs.Tables.{position, found}
+use Rattle.table.specs.Tables.{position}
 use Rattle.table.proofs.Finds.{position-none}
 use Rattle.table.proofs.Places.{position-found}
 use Rattle.store.specs.Meaning.{File, Volume, when_some}

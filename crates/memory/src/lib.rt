@@ -1,4 +1,6 @@
 //! The medium in memory: partitions and files as rows of two tables of fixed size.
+#![tactic(auto)]
+
 pub mod changes;
 pub mod finds;
 pub mod medium;

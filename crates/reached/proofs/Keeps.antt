@@ -1,17 +1,16 @@
 -- Each call keeps a store sound.
-use Rattle.std.proofs.Common.{◌≡◌, ℕ, suc, ◌+◌, ◌<◌, ◌≤◌, max, Bool, true, false, cond, not, ◌&&◌, ◌||◌, eqb, ltb, leb, List, [], ◌∷◌, ◌++◌, map, length, Some, None, filter, Option, sym, refl, ap, ◌∙◌, subst, arith}
-use Rattle.std.specs.List.{AllByRecursion as All}
-use Rattle.std.proofs.ByRecursion.{All-weaker, All-push, all_kept_by}
-use Rattle.std.proofs.lemmas.Bool.{cond_both, eqb-true, leb-true, leb-false, ltb-false, or_parts}
+use Rattle.std.proofs.Common.{◌≡◌, ℕ, ◌+◌, ◌≤◌, leb, List, length, Some, sym, refl, subst, arith}
+use Rattle.std.proofs.ByRecursion.{All-weaker}
+use Rattle.std.proofs.lemmas.Bool.{cond_both, leb-true}
 use Rattle.content.specs.Bytes.{limit, within, written, cut}
 use Rattle.content.specs.Patches.{Patch, lay}
 use Rattle.content.proofs.Lengths.{length-written, length_cut, lay-keeps, lay-ends}
-use Rattle.table.specs.Tables.{found, amended, without}
-use Rattle.store.specs.Meaning.{File, Handle, Volume, Disk, with_durable, with_live, with_files, with_handles, with_volume, empty_disk}
+use Rattle.table.specs.Tables.{found, amended}
+use Rattle.store.specs.Meaning.{File, Handle, Volume, Disk, with_durable, with_live, with_files, with_volume}
 use Rattle.store.specs.Live.{numbered}
 use Rattle.store.specs.Durable.{generated, crash_written, crash_resized}
 use Rattle.reached.specs.Sound.{Distinct, Sized, name_of, SoundFiles, SoundHandles, Agree, Sound}
-use Rattle.reached.proofs.Lists.{all-amended, all_without, all_found, found-passes, keys-amended, distinct_without, distinct-kept, distinct_push, distinct-found, length-amended, length_without, length-kept}
+use Rattle.reached.proofs.Lists.{all-amended, keys-amended, length-amended}
 
 -- other durable bytes for the file of a generation
 module _ (v : Volume) (gens g : ℕ) (change : File → List ℕ) (s : SoundFiles v gens)

@@ -1,20 +1,17 @@
 -- An open keeps a store sound.
-use Rattle.std.proofs.Common.{◌≡◌, ℕ, suc, ◌+◌, ◌<◌, ◌≤◌, Bool, true, false, cond, not, ◌&&◌, ◌||◌, eqb, ltb, leb, List, [], ◌∷◌, ◌++◌, map, length, is_some, Some, None, Ok, Err, Option, sym, refl, ap, ◌∙◌, subst, arith}
+use Rattle.std.proofs.Common.{◌≡◌, ℕ, ◌+◌, ◌<◌, ◌≤◌, Bool, true, false, cond, not, ◌&&◌, ◌||◌, leb, List, [], ◌∷◌, ◌++◌, length, is_some, Some, None, Ok, Err, Option, sym, refl, ap, subst, arith}
 use Rattle.std.specs.List.{AllByRecursion as All}
 use Rattle.std.specs.Str.{bytes_eq}
 use Rattle.std.proofs.lemmas.List.{length_push, map-id}
 use Rattle.std.proofs.lemmas.Slice.Eq.{bytes_eq-Decides}
 use Rattle.std.proofs.ByRecursion.{All-weaker, All-push}
-use Rattle.std.proofs.lemmas.Bool.{leb-false, ltb-false, or_parts, both_ways, and_from}
+use Rattle.std.proofs.lemmas.Bool.{leb-false, both_ways, and_from}
 use Rattle.fault.specs.declared.Fault.TheVariants.{TooLong, TableFull, BadPartition}
-use Rattle.content.specs.Bytes.{limit}
 use Rattle.name.specs.Names.{name_limit, is_partition}
 use Rattle.table.specs.Tables.{found}
-use Rattle.store.specs.Meaning.{File, Handle, Volume, Disk, when_some, when_ok, refused}
-use Rattle.store.specs.Live.{handle_limit, issue_limit, handles_full, handles_with}
-use Rattle.store.specs.Durable.{named, file_at, file_stands, partition_stands, partition_limit, file_limit, header_limit, name_too_long, open_too_long, crowded, new_file, opened_file, opened_volume}
-use Rattle.store.specs.Whole.{opened, open_answer}
-use Rattle.reached.specs.Sound.{Distinct, Sized, name_of, SoundFiles, SoundHandles, Agree, Sound}
+use Rattle.store.specs.Meaning.{File, Handle, Volume, when_some, when_ok, refused}
+use Rattle.store.specs.Durable.{named, file_at, file_stands, partition_stands, partition_limit, file_limit, header_limit, new_file, opened_file}
+use Rattle.reached.specs.Sound.{Distinct, Sized, name_of, SoundFiles, SoundHandles, Agree}
 use Rattle.reached.proofs.Lists.{all_found, none_passes, distinct_push, distinct-found, found-push, found-more}
 
 -- an open either leaves a store as it is, or met none of its refusals

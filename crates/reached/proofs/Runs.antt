@@ -1,15 +1,15 @@
 -- Any calls reach a sound store.
-use Rattle.std.proofs.Common.{◌≡◌, ℕ, ◌+◌, ◌<◌, ◌≤◌, Bool, true, false, cond, not, ◌&&◌, ◌||◌, ltb, leb, List, [], ◌∷◌, ◌++◌, map, length, refl, arith}
+use Rattle.std.proofs.Common.{ℕ, ◌<◌, cond, not, ◌&&◌, ◌||◌, ltb, leb, List, [], ◌∷◌, ◌++◌, length, arith}
 use Rattle.std.proofs.lemmas.List.{length_push}
 use Rattle.std.proofs.ByRecursion.{All-weaker, All-push}
 use Rattle.std.proofs.lemmas.Bool.{leb-false, ltb-false, or_parts}
 use Rattle.name.specs.Names.{name_limit, is_partition}
-use Rattle.store.specs.Meaning.{File, Handle, Disk}
+use Rattle.store.specs.Meaning.{Handle, Disk}
 use Rattle.store.specs.Live.{handle_limit, issue_limit, handles_full}
 use Rattle.store.specs.Durable.{file_stands, partition_stands, partition_limit, file_limit, header_limit, name_too_long, open_too_long, crowded, opened_file}
-use Rattle.store.specs.Whole.{opened, open_answer}
+use Rattle.store.specs.Whole.{opened}
 use Rattle.reached.specs.Calls.{Call, Reset, Open, Write, Resize, Sync, Close, Remove, RemovePartition, CrashWrite, CrashResize, Restart, after, after_all}
-use Rattle.reached.specs.Sound.{Sized, Sound, StoresAreSound}
+use Rattle.reached.specs.Sound.{Sound, StoresAreSound}
 use Rattle.reached.proofs.Lists.{distinct_push}
 use Rattle.reached.proofs.Keeps.{crash-write-sound, crash-resize-sound}
 use Rattle.reached.proofs.Steps.{write-sound, resize-sound, sync-sound, close-sound, restart-sound, empty-sound, remove-sound, remove-partition-sound}

@@ -1,7 +1,6 @@
 -- Placing names one after another sorts them.
 use Rattle.std.proofs.Common.{◌≡◌, ℕ, ◌<◌, Bool, true, false, cond, eqb, ltb, List, [], ◌∷◌, ◌++◌, map, filter, sym, refl, ap, ◌∙◌, subst, arith}
 use Rattle.std.specs.List.{AllByRecursion as All}
-use Rattle.std.specs.Str.{bytes_eq}
 use Rattle.std.specs.List.Sorted.{IsPermutation}
 use Rattle.std.proofs.lemmas.Slice.Eq.{bytes_eq-Decides}
 use Rattle.std.proofs.ByRecursion.{All-weaker}
@@ -11,10 +10,10 @@ use Rattle.std.proofs.lemmas.Bool.{cond_both, eqb-true, ltb-true, ltb-false, eq-
 use Rattle.std.proofs.lemmas.Bool.Decides.{nat_tests}
 use Rattle.name.specs.Names.{before}
 use Rattle.name.specs.Listings.{placed, placed_all, sorted}
-use Rattle.store.specs.Meaning.{File, Disk}
+use Rattle.store.specs.Meaning.{File}
 use Rattle.store.specs.Durable.{in_partition}
-use Rattle.reached.specs.Calls.{Call, reached}
-use Rattle.reached.specs.Sound.{Distinct, name_of, Sound}
+use Rattle.reached.specs.Calls.{reached}
+use Rattle.reached.specs.Sound.{Distinct, name_of}
 use Rattle.reached.specs.Scans.{Ascending, names_in, ScansAscend}
 use Rattle.reached.proofs.Runs.{sound}
 

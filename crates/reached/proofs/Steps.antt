@@ -1,5 +1,5 @@
 -- Writes, resizes, syncs, closes, removals and restarts keep a store sound.
-use Rattle.std.proofs.Common.{◌≡◌, ℕ, suc, ◌+◌, ◌<◌, ◌≤◌, Bool, true, false, cond, not, List, [], ◌∷◌, map, length, is_some, Some, None, Ok, Err, filter, Option, Result, sym, refl, ap, ◌∙◌, subst, arith}
+use Rattle.std.proofs.Common.{◌≡◌, ℕ, ◌+◌, ◌≤◌, Bool, true, false, cond, not, List, length, Some, None, Ok, Err, filter, Option, Result, sym, refl, subst, arith}
 use Rattle.std.specs.List.{AllByRecursion as All}
 use Rattle.std.specs.Str.{bytes_eq}
 use Rattle.std.proofs.ByRecursion.{All-weaker, all_kept_by}
@@ -10,10 +10,10 @@ use Rattle.content.specs.Bytes.{limit, written, cut}
 use Rattle.table.specs.Tables.{found, amended, without}
 use Rattle.store.specs.Meaning.{File, Handle, Volume, Disk, with_files, with_handles, with_volume, when_some, when_ok, refused, empty_disk}
 use Rattle.store.specs.Live.{numbered, handle_at, write_fault, resize_fault, live_resized}
-use Rattle.store.specs.Durable.{generated, named, in_partition, removed, removed_partition, remove_answer, remove_partition_answer, partition_stands, durable_written, durable_replaced}
+use Rattle.store.specs.Durable.{generated, named, in_partition, removed, removed_partition, remove_answer, remove_partition_answer, durable_written, durable_replaced}
 use Rattle.store.proofs.Faults.{write-fits, resize-fits}
-use Rattle.store.specs.Whole.{wrote, written_live, written_durable, resized, resize_answer, synced, closed_disk, restarted}
-use Rattle.reached.specs.Sound.{Distinct, Sized, name_of, SoundFiles, SoundHandles, Agree, Sound}
+use Rattle.store.specs.Whole.{wrote, written_live, written_durable, resized, synced, closed_disk, restarted}
+use Rattle.reached.specs.Sound.{Distinct, Sized, name_of, SoundFiles, Agree, Sound}
 use Rattle.reached.proofs.Lists.{all_without, all_found, found-passes, distinct_without, distinct-kept, length_without, length-kept, all-kept, found-without, same-other}
 use Rattle.reached.proofs.Keeps.{files-changed, agree-changed, handles-changed, agree-turned, sized-written, sized-cut}
 

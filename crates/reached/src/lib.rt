@@ -1,4 +1,6 @@
 //! What holds of every store that calls reach from the empty one.
+#![tactic(auto)]
+
 ghost use Rattle.reached.specs.Scans.{ScansAscend};
 ghost use Rattle.reached.specs.Sound.{StoresAreSound};
 

@@ -1,4 +1,6 @@
 //! Calls on a store as values, and the line that tells the answer of each.
+#![tactic(auto)]
+
 use fault::Fault;
 use shown::{Flags, Hex, Told};
 use std::io;

@@ -1,4 +1,6 @@
 //! How bytes, flags and faults are printed.
+#![tactic(auto)]
+
 use fault::Fault;
 use std::fmt;
 

@@ -1,5 +1,5 @@
 -- An open that the medium refuses, and that no full table of handles stops.
-use Rattle.std.proofs.Common.{◌≡◌, ℕ, Bool, true, false, cond, ◌||◌, List, Some, None, Ok, Err, Option, Result, sym, refl, ap, ◌∙◌, arith}
+use Rattle.std.proofs.Common.{◌≡◌, ℕ, Bool, true, false, cond, ◌||◌, List, Some, None, Ok, Err, Result, ap, arith}
 use Rattle.fault.specs.declared.Fault.{Fault}
 use Rattle.fault.specs.declared.Fault.TheVariants.{TooLong, TableFull, BadPartition}
 use Rattle.name.specs.Names.{is_partition}

@@ -1,4 +1,4 @@
-use Rattle.std.proofs.Common.{◌≡◌, Bool, not, map, sym, refl, ap, ◌∙◌, arith}
+use Rattle.std.proofs.Common.{not, map, sym, ap, ◌∙◌, arith}
 use Rattle.std.proofs.lemmas.List.Filters.{FiltersInPlace, FiltersInPlace-all, FiltersInPlace-more_no, FiltersInPlace-more_set}
 use Rattle.table.proofs.Places.{map-kept-by}
 use Rattle.store.specs.Durable.{in_partition}

@@ -7,7 +7,7 @@ use Rattle.table.specs.Tables.{without}
 use Rattle.table.proofs.Finds.{here, position_some}
 use Rattle.store.specs.Meaning.{Volume, with_files, refused, when_ok, Done}
 use Rattle.store.specs.Durable.{in_partition, in_standing, remove_partition_answer}
-use Rattle.memory.specs.Volumes.{files_of, partitions_of, volume_of, with_partitions}
+use Rattle.memory.specs.Volumes.{partitions_of, volume_of, with_partitions}
 use Rattle.memory.proofs.Standing.{standing, standing-place, missing}
 use Rattle.memory.proofs.medium.MemoryMedium.remove_partition.Goals as goal
 

@@ -1,11 +1,9 @@
-use Rattle.std.proofs.Common.{◌≡◌, ℕ, ◌<◌, Bool, false, cond, not, ◌&&◌, leb, [], ◌∷◌, ◌++◌, length, is_some, Option, sym, refl, ap, ◌∙◌, arith}
-use Rattle.std.proofs.lemmas.Bool.{leb-false, or_parts}
-use Rattle.table.specs.Tables.{found}
+use Rattle.std.proofs.Common.{◌≡◌, false, cond, not, ◌&&◌, leb, [], ◌∷◌, ◌++◌, length, is_some, Option, sym, refl, ap, ◌∙◌, arith}
+use Rattle.std.proofs.lemmas.Bool.{leb-false}
 use Rattle.table.proofs.Uses.{used-length}
 use Rattle.table.proofs.Finds.{position-none}
 use Rattle.store.specs.Meaning.{File, with_files, when_some}
 use Rattle.store.specs.Durable.{named, new_file}
-use Rattle.memory.specs.declared.rows.Memory.{Memory}
 use Rattle.memory.specs.Volumes.{file_of, files_of, volume_of}
 use Rattle.memory.proofs.Found.{file-below, file-found}
 use Rattle.memory.proofs.rows.Memory.make_file.Goals as goal

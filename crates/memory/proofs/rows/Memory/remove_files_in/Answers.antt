@@ -1,7 +1,7 @@
 use Rattle.std.proofs.Common.{◌≡◌, ◌-◌, not, map, length, take, filter, sym, ap, ◌∙◌, arith, rules}
 use Rattle.std.proofs.lemmas.List.{places, take-map, length-take-le}
 use Rattle.table.proofs.Places.{used-front}
-use Rattle.store.specs.Meaning.{File, with_files}
+use Rattle.store.specs.Meaning.{with_files}
 use Rattle.store.specs.Durable.{in_partition}
 use Rattle.memory.specs.Volumes.{file_of, volume_of}
 use Rattle.memory.proofs.rows.Memory.remove_files_in.Goals as goal

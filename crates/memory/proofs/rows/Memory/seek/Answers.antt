@@ -4,7 +4,7 @@ use Rattle.std.proofs.lemmas.Result.{err_from_is_err_and}
 use Rattle.fault.specs.declared.Fault.TheVariants.{BlobMissing}
 use Rattle.table.specs.Tables.{position}
 use Rattle.store.specs.Durable.{named}
-use Rattle.memory.specs.Volumes.{files_of, volume_of}
+use Rattle.memory.specs.Volumes.{volume_of}
 use Rattle.memory.proofs.Standing.{standing, missing}
 use Rattle.memory.proofs.rows.Memory.seek.Goals as goal
 
