@@ -4,5 +4,5 @@
 pub mod blob;
 pub mod limits;
 pub mod live;
+pub mod opening;
 pub mod rows;
-pub mod table;

@@ -1,6 +1,6 @@
 -- Each call keeps the sizes, and so the size promise holds.
 use Rattle.std.proofs.Common.{◌≡◌, ℕ, ◌+◌, ◌^◌, ◌<◌, ◌≤◌, Bool, true, false, cond, not, eqb, ltb, leb, ◌⊎◌, List, [], ◌∷◌, ◌++◌, map, length, is_some, Some, None, Ok, Err, Decides, filter, Option, Result, sym, refl, ap, ◌∙◌, subst, inl, inr, arith, rules}
-use Rattle.std.specs.List.{AllByRecursion as All}
+use Rattle.std.specs.List.{AllByRecursion}
 use Rattle.std.specs.Str.{bytes_eq}
 use Rattle.std.proofs.lemmas.List.{same_lists, places}
 use Rattle.std.proofs.ByRecursion.{All-weaker, All-push}
@@ -38,7 +38,7 @@ use Rattle.laws.proofs.Opens.{opened_ok, first_size, opened-ok}
 use Rattle.laws.proofs.Sizes.{SizeInv, NoneNew, none-new-from, none-new-changed, sizes-fewer, write-sizes, resize-sizes, ran-sizes}
 
 -- nothing is found by a number that all rows are below
-pub unissued : {A : Type 0} (key : A → ℕ) (k : ℕ) (xs : List A) → All (λ x. key x < k) xs → found (λ x. eqb (key x) k) xs ≡ None
+pub unissued : {A : Type 0} (key : A → ℕ) (k : ℕ) (xs : List A) → AllByRecursion (λ x. key x < k) xs → found (λ x. eqb (key x) k) xs ≡ None
 unissued key k [] a = refl
 unissued key k (x ∷ xs) a = let l = a.0 in rw (ne_eqb (key x) k (omega arith)) (unissued key k xs a.1)
 

@@ -1,7 +1,7 @@
 -- One file among the others: by its generation, after a change, a removal or a making.
 use Rattle.std.proofs.Common.{◌≡◌, ℕ, Bool, true, false, cond, eqb, List, [], ◌∷◌, map, Some, None, filter, sym, refl, ap, ◌∙◌, arith}
 use Rattle.std.specs.Option.{option_map}
-use Rattle.std.specs.List.{AllByRecursion as All}
+use Rattle.std.specs.List.{AllByRecursion}
 use Rattle.std.proofs.lemmas.Bool.{eqb-true, ne_eqb, cond-false}
 use Rattle.table.specs.Tables.{found, amended, without}
 use Rattle.table.proofs.Keys.{found-amended, found-amended-other}
@@ -38,12 +38,12 @@ module _ {A : Type 0} (key : A → ℕ) where
   abbrev pub keyed : ℕ → A → Bool
   keyed k x = eqb (key x) k
 
-  pub none-keyed : (k : ℕ) (xs : List A) → All (λ y. k ≡ y → ⊥) (map key xs) → found (keyed k) xs ≡ None
+  pub none-keyed : (k : ℕ) (xs : List A) → AllByRecursion (λ y. k ≡ y → ⊥) (map key xs) → found (keyed k) xs ≡ None
   none-keyed k [] a = refl
   none-keyed k (x ∷ xs) a = cond-false (eqb (key x) k) (Some x) (found (keyed k) xs) (ne_eqb (key x) k (λ e. a.0 (sym e))) ∙ none-keyed k xs a.1
 
   -- a key that differs from all others differs from one that is found
-  differs : (k : ℕ) (q : A → Bool) (xs : List A) (y : A) → found q xs ≡ Some y → All (λ x. k ≡ x → ⊥) (map key xs) → k ≡ key y → ⊥
+  differs : (k : ℕ) (q : A → Bool) (xs : List A) (y : A) → found q xs ≡ Some y → AllByRecursion (λ x. k ≡ x → ⊥) (map key xs) → k ≡ key y → ⊥
   differs k q [] y e a s = let z : ◌≡◌ {A = ℕ} 0 1 = cc in omega arith
   differs k q (x ∷ xs) y e a s = go (q x) e (λ f. differs k q xs y f a.1 s)
     where
@@ -65,7 +65,7 @@ module _ {A : Type 0} (key : A → ℕ) where
   gone-kept q k [] y e n d = refl
   gone-kept q k (x ∷ xs) y e n d = go (eqb (key x) k) (q x) refl refl e (λ f. gone-kept q k xs y f n d.1)
     where
-      all-kept : (xs : List A) → All (λ z. key x ≡ z → ⊥) (map key xs) → found (keyed (key x)) (filter q xs) ≡ None
+      all-kept : (xs : List A) → AllByRecursion (λ z. key x ≡ z → ⊥) (map key xs) → found (keyed (key x)) (filter q xs) ≡ None
       all-kept [] a = refl
       all-kept (z ∷ zs) a = two (q z) (all-kept zs a.1)
         where

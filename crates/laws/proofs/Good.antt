@@ -1,6 +1,6 @@
 -- What holds between a bench and the ledger beside it after every call; and the calls that leave the ledger as it is.
 use Rattle.std.proofs.Common.{◌≡◌, ℕ, ◌+◌, ◌<◌, Bool, true, false, cond, eqb, ltb, List, [], ◌∷◌, length, Some, None, Ok, Err, Option, Result, sym, refl, ap, ◌∙◌, subst, arith}
-use Rattle.std.specs.List.{AllByRecursion as All}
+use Rattle.std.specs.List.{AllByRecursion}
 use Rattle.std.proofs.lemmas.Bool.{cond_both, eqb-true}
 use Rattle.fault.specs.Numbers.{number}
 use Rattle.fault.specs.declared.Op.{Op as Operation}
@@ -110,7 +110,7 @@ module _ (b : Faulty) (pages : ℕ → Page) (snd : Sound b.store) (kp : KeptIn 
 
   pub held-handle : (n : ℕ) (x : Handle) → handle_at b.store.handles n ≡ Some x → Held x
   held-handle n x e =
-      let agrees = all_found (λ (h : Handle). All (λ (f : File). h.generation ≡ f.generation → h.header ≡ f.header) b.store.volume.files) (numbered n) b.store.handles x e snd.headers in
+      let agrees = all_found (λ (h : Handle). AllByRecursion (λ (f : File). h.generation ≡ f.generation → h.header ≡ f.header) b.store.volume.files) (numbered n) b.store.handles x e snd.headers in
       record {
         issued = all_found (λ (h : Handle). h.generation < b.store.generations) (numbered n) b.store.handles x e snd.handles.generations_issued;
         header = λ f q. sym (all_found (λ (y : File). x.generation ≡ y.generation → x.header ≡ y.header) (generated x.generation) b.store.volume.files f q agrees

@@ -1,6 +1,6 @@
 -- All files: each change of the bench keeps what holds between pages, durable bytes and log, at every place of every file.
 use Rattle.std.proofs.Common.{◌≡◌, ℕ, ◌+◌, ◌<◌, ◌≤◌, Bool, true, false, cond, eqb, leb, ◌⊎◌, List, [], ◌∷◌, length, Some, None, Option, sym, refl, ◌∙◌, inl, inr, arith}
-use Rattle.std.specs.List.{AllByRecursion as All}
+use Rattle.std.specs.List.{AllByRecursion}
 use Rattle.std.proofs.lemmas.Bool.{ne_eqb, eq-eqb, cond-true}
 use Rattle.draw.specs.Words.{Words}
 use Rattle.draw.specs.declared.select.PartialWriteMode.{PartialWriteMode}
@@ -137,13 +137,13 @@ kept-made {v} {v'} {gens} {es} {pages} f here others k = record {
 
 -- files are removed, with the entries of their generations
 pub kept-removed : {v v' : Volume} {gens : ℕ} {es : List Entry} {pages : ℕ → Page} (gs : List ℕ)
-    → ((h : ℕ) → (file_of v' h ≡ None) ⊎ ((file_of v' h ≡ file_of v h) × All (λ x. x ≡ h → ⊥) gs)) → Kept v gens es pages → Kept v' gens (dropped_all es gs) pages
+    → ((h : ℕ) → (file_of v' h ≡ None) ⊎ ((file_of v' h ≡ file_of v h) × AllByRecursion (λ x. x ≡ h → ⊥) gs)) → Kept v gens es pages → Kept v' gens (dropped_all es gs) pages
 kept-removed {v} {v'} {gens} {es} {pages} gs ways k = record {
   stands = λ h p. go h p (ways h);
   unissued = λ h d le. since-dropped-none h d es gs (k.unissued h d le);
 }
   where
-    go : (h p : ℕ) → (file_of v' h ≡ None) ⊎ ((file_of v' h ≡ file_of v h) × All (λ x. x ≡ h → ⊥) gs) → At p h (pages h) (dropped_all es gs) (file_of v' h)
+    go : (h p : ℕ) → (file_of v' h ≡ None) ⊎ ((file_of v' h ≡ file_of v h) × AllByRecursion (λ x. x ≡ h → ⊥) gs) → At p h (pages h) (dropped_all es gs) (file_of v' h)
     go h p (inl e) = rw e tt
     go h p (inr e) = rw e.0 (at_same p h (pages h) es (dropped_all es gs) (file_of v h) (λ d. since-dropped-all h d es gs e.1) (k.stands h p))
 

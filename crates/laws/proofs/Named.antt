@@ -1,6 +1,6 @@
 -- Opens, removals, closes and restarts: which files stand and which handles are held after them.
 use Rattle.std.proofs.Common.{◌≡◌, ℕ, Bool, true, false, cond, not, ◌&&◌, eqb, ◌⊎◌, List, [], ◌∷◌, ◌++◌, map, is_some, Some, None, Ok, Err, filter, Option, sym, refl, ap, ◌∙◌, inl, inr, arith}
-use Rattle.std.specs.List.{AllByRecursion as All}
+use Rattle.std.specs.List.{AllByRecursion}
 use Rattle.std.specs.Str.{bytes_eq}
 use Rattle.std.proofs.ByRecursion.{All-weaker}
 use Rattle.std.proofs.lemmas.Slice.Eq.{bytes_eq-Decides}
@@ -47,7 +47,7 @@ other_name q m p n e f a = go (named p n f) refl
 
 -- where a test tells keys apart, no row passes once the first that did is gone
 module _ {A K : Type 0} (key : A → K) (p : A → Bool) (tells : (x y : A) → p x ≡ true → p y ≡ true → key x ≡ key y) where
-  none_other : (x : A) (xs : List A) → p x ≡ true → All (λ k. key x ≡ k → ⊥) (map key xs) → found p xs ≡ None
+  none_other : (x : A) (xs : List A) → p x ≡ true → AllByRecursion (λ k. key x ≡ k → ⊥) (map key xs) → found p xs ≡ None
   none_other x [] e a = refl
   none_other x (y ∷ ys) e a = go (p y) refl (none_other x ys e a.1)
     where

@@ -1,6 +1,6 @@
 -- An open keeps bench and ledger together, in the injection layer and in the register above it.
 use Rattle.std.proofs.Common.{◌≡◌, ℕ, ◌+◌, ◌<◌, Bool, true, false, cond, ◌||◌, List, [], ◌∷◌, ◌++◌, is_some, Some, None, Ok, Err, Option, Result, sym, refl, ap, ◌∙◌, subst, arith}
-use Rattle.std.specs.List.{AllByRecursion as All}
+use Rattle.std.specs.List.{AllByRecursion}
 use Rattle.std.proofs.lemmas.Bool.{eq-eqb, ne_eqb}
 use Rattle.fault.specs.declared.Op.TheVariants as Op
 use Rattle.fault.specs.declared.Fault.{Fault}
@@ -70,7 +70,7 @@ open-early m p n header =
     early-cond (open_too_long p n header) (Some TooLong) _ refl (early-cond (handles_full m.handles m.issued || crowded m.volume p n) (Some TableFull) None refl tt)
 
 -- no file has a generation that is not issued
-unissued-none : (k : ℕ) (fs : List File) → All (λ f. f.generation < k) fs → found (generated k) fs ≡ None
+unissued-none : (k : ℕ) (fs : List File) → AllByRecursion (λ f. f.generation < k) fs → found (generated k) fs ≡ None
 unissued-none k [] a = refl
 unissued-none k (f ∷ fs) a = let l = a.0 in rw (ne_eqb f.generation k (omega arith)) (unissued-none k fs a.1)
 

@@ -1,6 +1,6 @@
 -- After every list of calls bench and ledger are good together, and so the crash promise holds.
 use Rattle.std.proofs.Common.{◌≡◌, ℕ, zero, suc, Bool, true, false, cond, eqb, List, [], ◌∷◌, ◌++◌, map, Some, None, Option, sym, refl, ap, ◌∙◌, subst, arith}
-use Rattle.std.specs.List.{ContainsAt as Has, AllByRecursion as All}
+use Rattle.std.specs.List.{ContainsAt, AllByRecursion}
 use Rattle.std.proofs.lemmas.Bool.{eq-eqb, ne_eqb, cond-true, cond-false}
 use Rattle.draw.specs.Words.{Words}
 use Rattle.table.specs.Tables.{found}
@@ -81,22 +81,22 @@ crashed w area cs = ap (λ (b : Bench). b.under.store.volume) (run-append cs (Cr
 
 -- Files by their generations.
 module _ {A : Type 0} (key : A → ℕ) where
-  apart : (k : ℕ) (xs : List A) (x : A) → All (λ y. k ≡ y → ⊥) (map key xs) → Has xs x → k ≡ key x → ⊥
+  apart : (k : ℕ) (xs : List A) (x : A) → AllByRecursion (λ y. k ≡ y → ⊥) (map key xs) → ContainsAt xs x → k ≡ key x → ⊥
   apart k [] x a h e = omega (arith, h.1)
   apart k (y ∷ ys) x a (zero, l, at) e = a.0 (e ∙ sym (ap key (at y)))
   apart k (y ∷ ys) x a (suc i, l, at) e = apart k ys x a.1 (i, omega arith, at) e
 
-  has-found : (xs : List A) (x : A) → Distinct (map key xs) → Has xs x → found (keyed key (key x)) xs ≡ Some x
+  has-found : (xs : List A) (x : A) → Distinct (map key xs) → ContainsAt xs x → found (keyed key (key x)) xs ≡ Some x
   has-found [] x d h = absurd (omega (arith, h.1))
   has-found (y ∷ ys) x d (zero, l, at) = cond-true (eqb (key y) (key x)) (Some y) _ (eq-eqb (key y) (key x) (ap key (at y))) ∙ ap Some (at y)
   has-found (y ∷ ys) x d (suc i, l, at) =
       cond-false (eqb (key y) (key x)) (Some y) _ (ne_eqb (key y) (key x) (apart (key y) ys x d.0 (i, omega arith, at))) ∙ has-found ys x d.1 (i, omega arith, at)
 
-found-has : {A : Type 0} (q : A → Bool) (xs : List A) (x : A) → found q xs ≡ Some x → Has xs x
+found-has : {A : Type 0} (q : A → Bool) (xs : List A) (x : A) → found q xs ≡ Some x → ContainsAt xs x
 found-has q [] x e = absurd (let z : ◌≡◌ {A = ℕ} 0 1 = cc in omega arith)
 found-has q (y ∷ ys) x e = go (q y) e (found-has q ys x)
   where
-    go : (t : Bool) → cond t (Some y) (found q ys) ≡ Some x → (found q ys ≡ Some x → Has ys x) → Has (y ∷ ys) x
+    go : (t : Bool) → cond t (Some y) (found q ys) ≡ Some x → (found q ys ≡ Some x → ContainsAt ys x) → ContainsAt (y ∷ ys) x
     go true e more = let s : y ≡ x = cc in (0, omega arith, λ d. s)
     go false e more = let h = more e in (suc h.0, omega (arith, h.1), h.2)
 
@@ -110,21 +110,21 @@ module _ (w : Words) (area : List ℕ) (cs : List Call) where
   abbrev after : Volume
   after = (replayed b.log b.store.volume b.words).0
 
-  keeps : (f : File) → Has b.store.volume.files f → (e : File) × Has after.files e × Same f e
+  keeps : (f : File) → ContainsAt b.store.volume.files f → (e : File) × ContainsAt after.files e × Same f e
   keeps f h =
       let here = has-found (λ (x : File). x.generation) b.store.volume.files f g.sound.files.generations_distinct h in
       let k = kept-promise g.kept b.words f.generation f here in
       (with_durable f k.0, found-has (generated f.generation) after.files (with_durable f k.0) k.1, record { partition = refl; name = refl; generation = refl; header = refl })
 
-  allowed : (e : File) → Has after.files e
-      → (f : File) × Has b.store.volume.files f × Same f e × ((p : ℕ) → Allowed ((ledger w area cs).pages e.generation p) (held e.durable p))
+  allowed : (e : File) → ContainsAt after.files e
+      → (f : File) × ContainsAt b.store.volume.files f × Same f e × ((p : ℕ) → Allowed ((ledger w area cs).pages e.generation p) (held e.durable p))
   allowed e h = go (file_of b.store.volume e.generation) refl
     where
       here : file_of after e.generation ≡ Some e
       here = has-found (λ (x : File). x.generation) after.files e (crash-sound b.store b.log b.words g.sound).files.generations_distinct h
 
       go : (o : Option File) → file_of b.store.volume e.generation ≡ o
-          → (f : File) × Has b.store.volume.files f × Same f e × ((p : ℕ) → Allowed ((ledger w area cs).pages e.generation p) (held e.durable p))
+          → (f : File) × ContainsAt b.store.volume.files f × Same f e × ((p : ℕ) → Allowed ((ledger w area cs).pages e.generation p) (held e.durable p))
       go None q =
           let n = crash-none e.generation b.log b.store.volume b.words q in
           absurd (let s : None ≡ Some e = sym n ∙ here in let z : ◌≡◌ {A = ℕ} 0 1 = cc in omega arith)
@@ -139,8 +139,8 @@ module _ (w : Words) (area : List ℕ) (cs : List Call) where
 
 pub crash-promise : CrashPromise
 crash-promise w area cs = record {
-  keeps = λ f h. (let k = keeps w area cs f h in (k.0, subst (λ (v : Volume). Has v.files k.0) (sym (crashed w area cs)) k.1, k.2));
-  allowed = λ e h. allowed w area cs e (subst (λ (v : Volume). Has v.files e) (crashed w area cs) h);
+  keeps = λ f h. (let k = keeps w area cs f h in (k.0, subst (λ (v : Volume). ContainsAt v.files k.0) (sym (crashed w area cs)) k.1, k.2));
+  allowed = λ e h. allowed w area cs e (subst (λ (v : Volume). ContainsAt v.files e) (crashed w area cs) h);
 }
 
 pub ledger-knows : LedgerKnows

@@ -1,7 +1,7 @@
 -- Removals keep bench and ledger together.
 use Rattle.std.proofs.Common.{◌≡◌, ℕ, Bool, true, false, cond, not, ◌||◌, ◌⊎◌, List, [], ◌∷◌, Some, None, Ok, Err, filter, Option, sym, refl, ap, ◌∙◌, inl, inr, arith}
 use Rattle.std.specs.Option.{option_map}
-use Rattle.std.specs.List.{AllByRecursion as All}
+use Rattle.std.specs.List.{AllByRecursion}
 use Rattle.std.specs.Str.{bytes_eq}
 use Rattle.std.proofs.ByRecursion.{All-map}
 use Rattle.std.proofs.lemmas.Bool.{cond_both, cases_eq, ne_eqb, both_ways, not_from_true, not_from_false}
@@ -56,12 +56,12 @@ module _ (b : Faulty) (pages : ℕ → Page) (snd : Sound b.store) (kp : KeptIn 
   -- one file goes, with the entries of its generation
   file-ways : (p n : List ℕ) (f : File) → file_at v p n ≡ Some f → (k : ℕ)
       → (file_of (with_files v (without (named p n) v.files)) k ≡ None)
-      ⊎ ((file_of (with_files v (without (named p n) v.files)) k ≡ file_of v k) × All (λ g. g ≡ k → ⊥) (f.generation ∷ []))
+      ⊎ ((file_of (with_files v (without (named p n) v.files)) k ≡ file_of v k) × AllByRecursion (λ g. g ≡ k → ⊥) (f.generation ∷ []))
   file-ways p n f e k = go (cases_eq f.generation k)
     where
       go : (f.generation ≡ k) ⊎ (f.generation ≡ k → ⊥)
           → (file_of (with_files v (without (named p n) v.files)) k ≡ None)
-          ⊎ ((file_of (with_files v (without (named p n) v.files)) k ≡ file_of v k) × All (λ g. g ≡ k → ⊥) (f.generation ∷ []))
+          ⊎ ((file_of (with_files v (without (named p n) v.files)) k ≡ file_of v k) × AllByRecursion (λ g. g ≡ k → ⊥) (f.generation ∷ []))
       go (inl s) =
           inl (ap (λ (j : ℕ). found (generated j) (without (named p n) v.files)) (sym s) ∙ gone-without generation_is (named p n) v.files f e snd.files.generations_distinct)
       go (inr m) = inr (found-removed (generated k) (named p n) v.files f e (ne_eqb f.generation k m), (m, tt))
@@ -82,22 +82,22 @@ module _ (b : Faulty) (pages : ℕ → Page) (snd : Sound b.store) (kp : KeptIn 
   abbrev emptied : List ℕ → Volume
   emptied p = record { partitions = without (λ q. bytes_eq q p) v.partitions; files = filter (λ f. not (in_partition p f)) v.files }
 
-  partition-ways : (p : List ℕ) (k : ℕ) → (file_of (emptied p) k ≡ None) ⊎ ((file_of (emptied p) k ≡ file_of v k) × All (λ g. g ≡ k → ⊥) (generations_in v p))
+  partition-ways : (p : List ℕ) (k : ℕ) → (file_of (emptied p) k ≡ None) ⊎ ((file_of (emptied p) k ≡ file_of v k) × AllByRecursion (λ g. g ≡ k → ⊥) (generations_in v p))
   partition-ways p k = go (file_of v k) refl
     where
-      apart : (f : File) → file_of v k ≡ Some f → in_partition p f ≡ false → All (λ g. g ≡ k → ⊥) (generations_in v p)
+      apart : (f : File) → file_of v k ≡ Some f → in_partition p f ≡ false → AllByRecursion (λ g. g ≡ k → ⊥) (generations_in v p)
       apart f e out =
-          let same : All (λ y. f.generation ≡ y.generation → in_partition p y ≡ false) v.files =
+          let same : AllByRecursion (λ y. f.generation ≡ y.generation → in_partition p y ≡ false) v.files =
           distinct-found generation_is (generated k) (λ y. in_partition p y ≡ false) v.files f e snd.files.generations_distinct out in
           All-map (λ g. g ≡ k → ⊥) generation_is (filter (in_partition p) v.files)
           (all-kept (λ y. f.generation ≡ y.generation → in_partition p y ≡ false) (λ y. y.generation ≡ k → ⊥) (in_partition p)
           (λ y t h q. both_ways (in_partition p y) (h (file-generation v k f e ∙ sym q)) t) v.files same)
 
-      two : (f : File) → file_of v k ≡ Some f → (t : Bool) → in_partition p f ≡ t → (file_of (emptied p) k ≡ None) ⊎ ((file_of (emptied p) k ≡ file_of v k) × All (λ g. g ≡ k → ⊥) (generations_in v p))
+      two : (f : File) → file_of v k ≡ Some f → (t : Bool) → in_partition p f ≡ t → (file_of (emptied p) k ≡ None) ⊎ ((file_of (emptied p) k ≡ file_of v k) × AllByRecursion (λ g. g ≡ k → ⊥) (generations_in v p))
       two f e true t = inl (gone-kept generation_is (λ y. not (in_partition p y)) k v.files f e (not_from_true (in_partition p f) t) snd.files.generations_distinct)
       two f e false t = inr (found-kept (generated k) (λ y. not (in_partition p y)) v.files f e (not_from_false (in_partition p f) t) ∙ sym e, apart f e t)
 
-      go : (o : Option File) → file_of v k ≡ o → (file_of (emptied p) k ≡ None) ⊎ ((file_of (emptied p) k ≡ file_of v k) × All (λ g. g ≡ k → ⊥) (generations_in v p))
+      go : (o : Option File) → file_of v k ≡ o → (file_of (emptied p) k ≡ None) ⊎ ((file_of (emptied p) k ≡ file_of v k) × AllByRecursion (λ g. g ≡ k → ⊥) (generations_in v p))
       go None e = inl (found-kept-none (generated k) (λ y. not (in_partition p y)) v.files e)
       go (Some f) e = two f e (in_partition p f) refl
 

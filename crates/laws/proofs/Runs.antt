@@ -1,7 +1,7 @@
 -- The runs of a failing write: each is a SYNC write of the store, and together they leave the bytes of the selection.
 use Rattle.std.proofs.Common.{◌≡◌, ℕ, suc, ◌+◌, ◌≤◌, Bool, true, false, cond, eqb, ◌⊎◌, List, [], ◌∷◌, length, Some, None, Ok, Err, Option, sym, refl, ap, ◌∙◌, inl, inr, add-suc, arith}
 use Rattle.std.specs.Option.{option_map}
-use Rattle.std.specs.List.{AllByRecursion as All}
+use Rattle.std.specs.List.{AllByRecursion}
 use Rattle.std.proofs.ByRecursion.{All-weaker}
 use Rattle.std.proofs.lemmas.Bool.{eqb-true, le-leb, le-ltb}
 use Rattle.fault.specs.declared.Fault.{Fault}
@@ -64,7 +64,7 @@ pub record Landed (d : ℕ) (rs : List (ℕ × List ℕ)) (g : ℕ) (f : File) (
   pub others : (k : ℕ) → (g ≡ k → ⊥) → file_of end.store.volume k ≡ file_of v k
 
 landed : (rs : List (ℕ × List ℕ)) (n : ℕ) (m : Disk) (ss : List Size) (x : Handle) (f : File) → handle_at m.handles n ≡ Some x → file_of m.volume x.generation ≡ Some f
-    → All (Fits x.header) rs → Landed x.header rs x.generation f m.volume (ran rs n m ss)
+    → AllByRecursion (Fits x.header) rs → Landed x.header rs x.generation f m.volume (ran rs n m ss)
 landed [] n m ss x f e q a = record { whole = refl; bytes = f.durable; here = q; over = λ p. inl refl; others = λ k _. refl }
 landed (r ∷ rs) n m ss x f e q a =
     let free = no-fault m.handles n r.0 (length r.1) x e a.0.0 a.0.1 in
@@ -92,7 +92,7 @@ pub record Lost (v : Volume) (ss : List Size) (rs : List (ℕ × List ℕ)) (end
   pub sizes : end.sizes ≡ ss
 
 lost : (rs : List (ℕ × List ℕ)) (n : ℕ) (m : Disk) (ss : List Size) (x : Handle) → handle_at m.handles n ≡ Some x → file_of m.volume x.generation ≡ None
-    → All (Fits x.header) rs → Lost m.volume ss rs (ran rs n m ss)
+    → AllByRecursion (Fits x.header) rs → Lost m.volume ss rs (ran rs n m ss)
 lost [] n m ss x e q a = record { fault = inl refl; others = λ k. refl; sizes = refl }
 lost (r ∷ rs) n m ss x e q a =
     let free = no-fault m.handles n r.0 (length r.1) x e a.0.0 a.0.1 in
@@ -147,24 +147,24 @@ module _ (d p : ℕ) where
 abbrev Inside : ℕ → ℕ → ℕ × List ℕ → Type 0
 Inside low high r = (low ≤ r.0) × (r.0 + length r.1 ≤ high)
 
-join-inside : (o x high : ℕ) (rs : List (ℕ × List ℕ)) → suc o ≤ high → All (Inside (suc o) high) rs → All (Inside o high) (join_run o x rs)
+join-inside : (o x high : ℕ) (rs : List (ℕ × List ℕ)) → suc o ≤ high → AllByRecursion (Inside (suc o) high) rs → AllByRecursion (Inside o high) (join_run o x rs)
 join-inside o x high [] l a = ((omega arith, omega arith), tt)
 join-inside o x high (r ∷ rs) l a = go (eqb r.0 (suc o)) refl
   where
-    more : All (Inside o high) (r ∷ rs)
+    more : AllByRecursion (Inside o high) (r ∷ rs)
     more = All-weaker (Inside (suc o) high) (Inside o high) (λ s q. (omega (arith, q.0), q.1)) (r ∷ rs) a
 
-    go : (t : Bool) → eqb r.0 (suc o) ≡ t → All (Inside o high) (cond t ((o, x ∷ r.1) ∷ rs) ((o, x ∷ []) ∷ (r ∷ rs)))
+    go : (t : Bool) → eqb r.0 (suc o) ≡ t → AllByRecursion (Inside o high) (cond t ((o, x ∷ r.1) ∷ rs) ((o, x ∷ []) ∷ (r ∷ rs)))
     go true e = let s : r.0 ≡ suc o = eqb-true r.0 (suc o) e in ((omega arith, omega (arith, a.0.1)), more.1)
     go false e = ((omega arith, omega arith), more)
 
-runs-inside : (o high : ℕ) (os : Patch) → o + length os ≤ high → All (Inside o high) (runs o os)
+runs-inside : (o high : ℕ) (os : Patch) → o + length os ≤ high → AllByRecursion (Inside o high) (runs o os)
 runs-inside o high [] l = tt
 runs-inside o high (None ∷ os) l =
     All-weaker (Inside (suc o) high) (Inside o high) (λ s q. (omega (arith, q.0), q.1)) (runs (suc o) os) (runs-inside (suc o) high os (omega arith))
 runs-inside o high (Some x ∷ os) l = join-inside o x high (runs (suc o) os) (omega arith) (runs-inside (suc o) high os (omega arith))
 
-runs_fit : (d o : ℕ) (os : Patch) → length os ≤ write_limit → o + length os + d ≤ limit → All (Fits d) (runs o os)
+runs_fit : (d o : ℕ) (os : Patch) → length os ≤ write_limit → o + length os + d ≤ limit → AllByRecursion (Fits d) (runs o os)
 runs_fit d o os short fits =
     All-weaker (Inside o (o + length os)) (Fits d) (λ r q. (omega (arith, q.0, q.1), omega (arith, q.0, q.1))) (runs o os) (runs-inside o (o + length os) os (omega arith))
 

@@ -1,7 +1,7 @@
 -- What a crash would replay of one generation: its changes since its last successful marker, and how the log's own changes
 -- change them.
 use Rattle.std.proofs.Common.{◌≡◌, ℕ, suc, ◌+◌, Bool, true, false, cond, not, ◌&&◌, eqb, leb, ◌⊎◌, List, [], ◌∷◌, ◌++◌, length, sym, refl, ap, ◌∙◌, inl, inr, add-suc}
-use Rattle.std.specs.List.{AllByRecursion as All}
+use Rattle.std.specs.List.{AllByRecursion}
 use Rattle.std.proofs.lemmas.Bool.{eqb-true, eqb-false, ne_eqb, eq-eqb, cases_eq, cond-true, cond-false, cond_both, false≢true}
 use Rattle.content.specs.Bytes.{limit}
 use Rattle.content.specs.Patches.{Patch}
@@ -65,7 +65,7 @@ since-dropped-other g d h n w (e ∷ es) = go (eqb (generation_in e) h) refl (λ
     go true k more = rw (noted_other g d w e (λ q. n (sym (eqb-true (generation_in e) h k) ∙ q))) (more w)
     go false k more = more (noted g d w e)
 
-pub since-dropped-all : (g d : ℕ) (es : List Entry) (gs : List ℕ) → All (λ h. h ≡ g → ⊥) gs → since g d (dropped_all es gs) ≡ since g d es
+pub since-dropped-all : (g d : ℕ) (es : List Entry) (gs : List ℕ) → AllByRecursion (λ h. h ≡ g → ⊥) gs → since g d (dropped_all es gs) ≡ since g d es
 since-dropped-all g d es [] a = refl
 since-dropped-all g d es (h ∷ gs) a = since-dropped-all g d (dropped es h) gs a.1 ∙ since-dropped-other g d h a.0 [] es
 

@@ -1,7 +1,7 @@
 -- What the bench keeps as a handle's size is the count of its live bytes, while its file stands.
 use Rattle.std.proofs.Common.{◌≡◌, ℕ, ◌+◌, ◌<◌, max, Bool, true, false, ◌⊎◌, List, [], ◌∷◌, length, Some, None, Ok, Err, Option, sym, refl, ap, ◌∙◌, subst, inl, inr, arith}
 use Rattle.std.specs.Option.{option_map}
-use Rattle.std.specs.List.{AllByRecursion as All}
+use Rattle.std.specs.List.{AllByRecursion}
 use Rattle.std.proofs.lemmas.Bool.{eqb-true, ne_eqb, cases_eq}
 use Rattle.fault.specs.declared.Fault.{Fault}
 use Rattle.fault.specs.declared.Fault.TheVariants.{NoHandle, BlobMissing}
@@ -30,7 +30,7 @@ SizesOk hs v ss =
 
 pub record SizeInv (m : Disk) (ss : List Size) : Type 0 where
   pub sized : SizesOk m.handles m.volume ss
-  pub issued : All (λ s. s.handle < m.issued) ss
+  pub issued : AllByRecursion (λ s. s.handle < m.issued) ss
 
 -- no file comes to stand
 abbrev pub NoneNew : Volume → Volume → Type 0
@@ -107,7 +107,7 @@ module _ (hs : List Handle) (v : Volume) (ss : List Size) (n : ℕ) (x : Handle)
           )
 
 -- handles of sizes stay issued
-sized-issued : (k n : ℕ) (size : ℕ → ℕ) (ss : List Size) → All (λ s. s.handle < k) ss → All (λ s. s.handle < k) (amended (is_size n) (λ s. record { handle = s.handle; size = size s.size }) ss)
+sized-issued : (k n : ℕ) (size : ℕ → ℕ) (ss : List Size) → AllByRecursion (λ s. s.handle < k) ss → AllByRecursion (λ s. s.handle < k) (amended (is_size n) (λ s. record { handle = s.handle; size = size s.size }) ss)
 sized-issued k n size ss a = all-amended (λ (s : Size). s.handle < k) (is_size n) (λ s. record { handle = s.handle; size = size s.size }) ss (λ s e q. q) a
 
 -- A write of the store, plain or SYNC: where it is accepted, the size becomes at least its end.

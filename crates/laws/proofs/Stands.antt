@@ -1,7 +1,7 @@
 -- One place of one file: what holds between its cell, its durable byte and the changes that a crash would replay, and that
 -- a crash then leaves what the cell allows.
 use Rattle.std.proofs.Common.{◌≡◌, ℕ, suc, Bool, true, false, cond, ◌⊎◌, List, [], ◌∷◌, is_some, Some, None, Option, refl, ap, ◌∙◌, inl, inr, arith}
-use Rattle.std.specs.List.{ContainsAt as Has}
+use Rattle.std.specs.List.{ContainsAt}
 use Rattle.content.specs.Bytes.{cut}
 use Rattle.content.specs.Patches.{Patch, lay}
 use Rattle.steps.specs.Log.{cleared, covers, idle, kept}
@@ -23,7 +23,7 @@ Replays (Cut n ∷ w) xs ys = (zs : List ℕ) × Replays w xs zs × (ys ≡ cut 
 -- a byte that a place may hold without being blank
 abbrev pub Firm : Cell → Option ℕ → Type 0
 Firm c None = ⊥
-Firm c (Some b) = (c.fixed ≡ Some b) ⊎ Has c.puts b
+Firm c (Some b) = (c.fixed ≡ Some b) ⊎ ContainsAt c.puts b
 
 abbrev Fair : Cell → Option ℕ → Type 0
 Fair c o = Firm c o ⊎ Blank o

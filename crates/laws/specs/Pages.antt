@@ -1,6 +1,6 @@
 -- What the ledger notes of each place of a file, header included.
 use Rattle.std.specs.Prelude.{◌≡◌, ℕ, zero, suc, Bool, true, false, cond, List, [], ◌∷◌, Some, None, Option, ◌==◌}
-use Rattle.std.specs.List.{ContainsAt as Has}
+use Rattle.std.specs.List.{ContainsAt}
 use Rattle.content.specs.Patches.{Patch}
 
 -- what a place of a content holds: nothing past the end
@@ -64,6 +64,6 @@ Blank (Some b) = b ≡ 0
 -- resize was recorded since that fixing, or no byte was fixed there.
 pub data Allowed (c : Cell) (o : Option ℕ) : Type 0 where
   as_fixed : (b : ℕ) → o ≡ Some b → c.fixed ≡ Some b → Allowed c o
-  as_put : (b : ℕ) → o ≡ Some b → Has c.puts b → Allowed c o
+  as_put : (b : ℕ) → o ≡ Some b → ContainsAt c.puts b → Allowed c o
   blank_marked : Blank o → c.mark ≡ true → Allowed c o
   blank_unfixed : Blank o → c.fixed ≡ None → Allowed c o

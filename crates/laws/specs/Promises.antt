@@ -1,6 +1,6 @@
 -- The promises, over every list of calls on a fresh bench, with any arguments and any words.
 use Rattle.std.specs.Prelude.{◌≡◌, ℕ, zero, suc, ◌+◌, ◌<◌, ◌≤◌, true, false, List, [], ◌∷◌, ◌++◌, length, Some, Ok, Err, Decides, ◌≢◌}
-use Rattle.std.specs.List.{ContainsAt as Has}
+use Rattle.std.specs.List.{ContainsAt}
 use Rattle.fault.specs.declared.Op.TheVariants as op
 use Rattle.fault.specs.declared.Fault.TheVariants.{Injected}
 use Rattle.draw.specs.Words.{Words, rest, after}
@@ -74,9 +74,9 @@ LedgerKnows = (w : Words) (area : List ℕ) (cs : List Call) → Knows (ledger w
 -- Where a list of calls ends in a crash: each file that stood before the crash stands after it; each that stands after it
 -- stood before, and each of its places holds what the ledger allowed there before the crash.
 pub record CrashKept (w : Words) (area : List ℕ) (before : List Call) : Type 0 where
-  pub keeps : (f : File) → Has (files_of (left w area before)) f → (e : File) × Has (files_of (left w area (before ++ (Crash ∷ [])))) e × Same f e
-  pub allowed : (e : File) → Has (files_of (left w area (before ++ (Crash ∷ [])))) e
-      → (f : File) × Has (files_of (left w area before)) f × Same f e
+  pub keeps : (f : File) → ContainsAt (files_of (left w area before)) f → (e : File) × ContainsAt (files_of (left w area (before ++ (Crash ∷ [])))) e × Same f e
+  pub allowed : (e : File) → ContainsAt (files_of (left w area (before ++ (Crash ∷ [])))) e
+      → (f : File) × ContainsAt (files_of (left w area before)) f × Same f e
       × ((p : ℕ) → Allowed ((ledger w area before).pages e.generation p) (held e.durable p))
 
 -- after every list of calls, whatever words are drawn

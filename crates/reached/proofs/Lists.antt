@@ -1,6 +1,6 @@
 -- Facts of each row, and of keys, under a change, a removal and an addition.
 use Rattle.std.proofs.Common.{◌≡◌, ℕ, suc, ◌≤◌, Bool, true, false, List, [], ◌∷◌, ◌++◌, map, length, is_some, Some, None, filter, sym, refl, ap, ◌∙◌, subst, arith}
-use Rattle.std.specs.List.{AllByRecursion as All}
+use Rattle.std.specs.List.{AllByRecursion}
 use Rattle.std.specs.Str.{bytes_eq}
 use Rattle.std.proofs.lemmas.Slice.Eq.{bytes_eq-Decides}
 use Rattle.std.proofs.lemmas.Bool.{cond_both}
@@ -8,23 +8,23 @@ use Rattle.table.specs.Tables.{found, amended, without}
 use Rattle.reached.specs.Sound.{Distinct}
 
 module _ {A : Type 0} (P : A → Type 0) where
-  pub all-amended : (p : A → Bool) (f : A → A) (xs : List A) → ((x : A) → found p xs ≡ Some x → P x → P (f x)) → All P xs → All P (amended p f xs)
+  pub all-amended : (p : A → Bool) (f : A → A) (xs : List A) → ((x : A) → found p xs ≡ Some x → P x → P (f x)) → AllByRecursion P xs → AllByRecursion P (amended p f xs)
   all-amended p f [] h a = tt
   all-amended p f (x ∷ xs) h a = go (p x) refl (all-amended p f xs)
     where
-      go : (t : Bool) → p x ≡ t → (((y : A) → found p xs ≡ Some y → P y → P (f y)) → All P xs → All P (amended p f xs)) → All P (amended p f (x ∷ xs))
+      go : (t : Bool) → p x ≡ t → (((y : A) → found p xs ≡ Some y → P y → P (f y)) → AllByRecursion P xs → AllByRecursion P (amended p f xs)) → AllByRecursion P (amended p f (x ∷ xs))
       go true t more = rw t (h x (rw t refl) a.0, a.1)
       go false t more = rw t (a.0, more (λ y e. h y (rw t e)) a.1)
 
-  pub all_without : (p : A → Bool) (xs : List A) → All P xs → All P (without p xs)
+  pub all_without : (p : A → Bool) (xs : List A) → AllByRecursion P xs → AllByRecursion P (without p xs)
   all_without p [] a = tt
-  all_without p (x ∷ xs) a = cond_both (p x) xs (x ∷ without p xs) (All P) (λ e. a.1) (λ e. (a.0, all_without p xs a.1))
+  all_without p (x ∷ xs) a = cond_both (p x) xs (x ∷ without p xs) (AllByRecursion P) (λ e. a.1) (λ e. (a.0, all_without p xs a.1))
 
-  pub all_found : (p : A → Bool) (xs : List A) (x : A) → found p xs ≡ Some x → All P xs → P x
+  pub all_found : (p : A → Bool) (xs : List A) (x : A) → found p xs ≡ Some x → AllByRecursion P xs → P x
   all_found p [] x e a = absurd (let z : ◌≡◌ {A = ℕ} 0 1 = cc in omega arith)
   all_found p (y ∷ ys) x e a = go (p y) refl (all_found p ys x)
     where
-      go : (t : Bool) → p y ≡ t → (found p ys ≡ Some x → All P ys → P x) → P x
+      go : (t : Bool) → p y ≡ t → (found p ys ≡ Some x → AllByRecursion P ys → P x) → P x
       go true t more = let k : Some y ≡ Some x = rw t at e in let s : y ≡ x = cc in subst P s a.0
       go false t more = more (rw t at e) a.1
 
@@ -38,11 +38,11 @@ found-passes p (y ∷ ys) x e = go (p y) refl (found-passes p ys x)
     go false t more = more (rw t at e)
 
 -- where nothing is found, each fails
-pub none_passes : {A : Type 0} (p : A → Bool) (xs : List A) → found p xs ≡ None → All (λ x. p x ≡ false) xs
+pub none_passes : {A : Type 0} (p : A → Bool) (xs : List A) → found p xs ≡ None → AllByRecursion (λ x. p x ≡ false) xs
 none_passes p [] e = tt
 none_passes p (y ∷ ys) e = go (p y) refl (none_passes p ys)
   where
-    go : (t : Bool) → p y ≡ t → (found p ys ≡ None → All (λ x. p x ≡ false) ys) → All (λ x. p x ≡ false) (y ∷ ys)
+    go : (t : Bool) → p y ≡ t → (found p ys ≡ None → AllByRecursion (λ x. p x ≡ false) ys) → AllByRecursion (λ x. p x ≡ false) (y ∷ ys)
     go true t more = absurd (let k : Some y ≡ None = rw t at e in let z : ◌≡◌ {A = ℕ} 0 1 = cc in omega arith)
     go false t more = (t, more (rw t at e))
 
@@ -54,13 +54,13 @@ keys-amended key p f h (x ∷ xs) =
 
 -- keys of what a removal or a filter leaves
 module _ {A K : Type 0} (key : A → K) (Q : K → Type 0) where
-  keyed-without : (p : A → Bool) (xs : List A) → All Q (map key xs) → All Q (map key (without p xs))
+  keyed-without : (p : A → Bool) (xs : List A) → AllByRecursion Q (map key xs) → AllByRecursion Q (map key (without p xs))
   keyed-without p [] a = tt
-  keyed-without p (x ∷ xs) a = cond_both (p x) xs (x ∷ without p xs) (λ ys. All Q (map key ys)) (λ e. a.1) (λ e. (a.0, keyed-without p xs a.1))
+  keyed-without p (x ∷ xs) a = cond_both (p x) xs (x ∷ without p xs) (λ ys. AllByRecursion Q (map key ys)) (λ e. a.1) (λ e. (a.0, keyed-without p xs a.1))
 
-  keyed-kept : (p : A → Bool) (xs : List A) → All Q (map key xs) → All Q (map key (filter p xs))
+  keyed-kept : (p : A → Bool) (xs : List A) → AllByRecursion Q (map key xs) → AllByRecursion Q (map key (filter p xs))
   keyed-kept p [] a = tt
-  keyed-kept p (x ∷ xs) a = cond_both (p x) (x ∷ filter p xs) (filter p xs) (λ ys. All Q (map key ys)) (λ e. (a.0, keyed-kept p xs a.1)) (λ e. keyed-kept p xs a.1)
+  keyed-kept p (x ∷ xs) a = cond_both (p x) (x ∷ filter p xs) (filter p xs) (λ ys. AllByRecursion Q (map key ys)) (λ e. (a.0, keyed-kept p xs a.1)) (λ e. keyed-kept p xs a.1)
 
 module _ {A K : Type 0} (key : A → K) where
   pub distinct_without : (p : A → Bool) (xs : List A) → Distinct (map key xs) → Distinct (map key (without p xs))
@@ -74,28 +74,28 @@ module _ {A K : Type 0} (key : A → K) where
       cond_both (p x) (x ∷ filter p xs) (filter p xs) (λ ys. Distinct (map key ys)) (λ e. (keyed-kept key (λ y. key x ≡ y → ⊥) p xs d.0, distinct-kept p xs d.1)) (λ e. distinct-kept p xs d.1)
 
   -- one more, whose key is new
-  pub distinct_push : (xs : List A) (x : A) → All (λ y. key y ≡ key x → ⊥) xs → Distinct (map key xs) → Distinct (map key (xs ++ (x ∷ [])))
+  pub distinct_push : (xs : List A) (x : A) → AllByRecursion (λ y. key y ≡ key x → ⊥) xs → Distinct (map key xs) → Distinct (map key (xs ++ (x ∷ [])))
   distinct_push [] x a d = (tt, tt)
   distinct_push (y ∷ ys) x a d = (apart ys a.0 d.0, distinct_push ys x a.1 d.1)
     where
-      apart : (zs : List A) → (key y ≡ key x → ⊥) → All (λ k. key y ≡ k → ⊥) (map key zs) → All (λ k. key y ≡ k → ⊥) (map key (zs ++ (x ∷ [])))
+      apart : (zs : List A) → (key y ≡ key x → ⊥) → AllByRecursion (λ k. key y ≡ k → ⊥) (map key zs) → AllByRecursion (λ k. key y ≡ k → ⊥) (map key (zs ++ (x ∷ [])))
       apart [] n b = (n, tt)
       apart (z ∷ zs) n b = (b.0, apart zs n b.1)
 
-  unkeyed : (Q : K → Type 0) (xs : List A) → All Q (map key xs) → All (λ x. Q (key x)) xs
+  unkeyed : (Q : K → Type 0) (xs : List A) → AllByRecursion Q (map key xs) → AllByRecursion (λ x. Q (key x)) xs
   unkeyed Q [] a = tt
   unkeyed Q (x ∷ xs) a = (a.0, unkeyed Q xs a.1)
 
-  apart_from : (P : A → Type 0) (y x : A) (ys : List A) → y ≡ x → All (λ z. key y ≡ key z → ⊥) ys → All (λ z. key x ≡ key z → P z) ys
+  apart_from : (P : A → Type 0) (y x : A) (ys : List A) → y ≡ x → AllByRecursion (λ z. key y ≡ key z → ⊥) ys → AllByRecursion (λ z. key x ≡ key z → P z) ys
   apart_from P y x [] s a = tt
   apart_from P y x (z ∷ zs) s a = ((λ k. absurd (a.0 (ap key s ∙ k))), apart_from P y x zs s a.1)
 
   -- two of one key are one
-  pub distinct-found : (p : A → Bool) (P : A → Type 0) (xs : List A) (x : A) → found p xs ≡ Some x → Distinct (map key xs) → P x → All (λ y. key x ≡ key y → P y) xs
+  pub distinct-found : (p : A → Bool) (P : A → Type 0) (xs : List A) (x : A) → found p xs ≡ Some x → Distinct (map key xs) → P x → AllByRecursion (λ y. key x ≡ key y → P y) xs
   distinct-found p P [] x e d q = tt
   distinct-found p P (y ∷ ys) x e d q = go (p y) refl (distinct-found p P ys x)
     where
-      go : (t : Bool) → p y ≡ t → (found p ys ≡ Some x → Distinct (map key ys) → P x → All (λ z. key x ≡ key z → P z) ys) → All (λ z. key x ≡ key z → P z) (y ∷ ys)
+      go : (t : Bool) → p y ≡ t → (found p ys ≡ Some x → Distinct (map key ys) → P x → AllByRecursion (λ z. key x ≡ key z → P z) ys) → AllByRecursion (λ z. key x ≡ key z → P z) (y ∷ ys)
       go true t more =
           let k : Some y ≡ Some x = rw t at e in
           let s : y ≡ x = cc in
@@ -121,10 +121,10 @@ length-kept p (x ∷ xs) =
     cond_both (p x) (x ∷ filter p xs) (filter p xs) (λ ys. length ys ≤ suc (length xs)) (λ e. omega (arith, length-kept p xs)) (λ e. omega (arith, length-kept p xs))
 
 -- what a filter keeps passes its test
-pub all-kept : {A : Type 0} (P Q : A → Type 0) (p : A → Bool) → ((x : A) → p x ≡ true → P x → Q x) → (xs : List A) → All P xs → All Q (filter p xs)
+pub all-kept : {A : Type 0} (P Q : A → Type 0) (p : A → Bool) → ((x : A) → p x ≡ true → P x → Q x) → (xs : List A) → AllByRecursion P xs → AllByRecursion Q (filter p xs)
 all-kept P Q p h [] a = tt
 all-kept P Q p h (x ∷ xs) a =
-    cond_both (p x) (x ∷ filter p xs) (filter p xs) (All Q) (λ e. (h x e a.0, all-kept P Q p h xs a.1)) (λ e. all-kept P Q p h xs a.1)
+    cond_both (p x) (x ∷ filter p xs) (filter p xs) (AllByRecursion Q) (λ e. (h x e a.0, all-kept P Q p h xs a.1)) (λ e. all-kept P Q p h xs a.1)
 
 -- what is found is still found once something else is gone
 pub found-without : {A : Type 0} (a b : A → Bool) (xs : List A) → ((x : A) → a x ≡ true → b x ≡ false) → is_some (found a xs) ≡ true → is_some (found a (without b xs)) ≡ true

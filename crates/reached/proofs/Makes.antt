@@ -1,6 +1,6 @@
 -- An open keeps a store sound.
 use Rattle.std.proofs.Common.{◌≡◌, ℕ, ◌+◌, ◌<◌, ◌≤◌, Bool, true, false, cond, not, ◌&&◌, ◌||◌, leb, List, [], ◌∷◌, ◌++◌, length, is_some, Some, None, Ok, Err, Option, sym, refl, ap, subst, arith}
-use Rattle.std.specs.List.{AllByRecursion as All}
+use Rattle.std.specs.List.{AllByRecursion}
 use Rattle.std.specs.Str.{bytes_eq}
 use Rattle.std.proofs.lemmas.List.{length_push, map-id}
 use Rattle.std.proofs.lemmas.Slice.Eq.{bytes_eq-Decides}
@@ -91,7 +91,7 @@ module _ (v : Volume) (gens : ℕ) (p n header : List ℕ) (s : SoundFiles v gen
     pub issued-file : f.generation < gens'
     pub sized : Sized f.header f.durable
     pub old : Agree hs fs
-    pub new : All (λ x. f.generation ≡ x.generation → f.header ≡ x.header) fs
+    pub new : AllByRecursion (λ x. f.generation ≡ x.generation → f.header ≡ x.header) fs
 
   pub file-made : Held (opened_file v p n header gens) (cond (file_stands v p n) v.files (v.files ++ (new_file p n header gens ∷ []))) (cond (file_stands v p n) gens (gens + 1))
   file-made = go (file_at v p n) refl
@@ -134,6 +134,6 @@ module _ (v : Volume) (gens : ℕ) (p n header : List ℕ) (s : SoundFiles v gen
             new = All-push _ v.files f (All-weaker _ _ (λ x q d. absurd (omega arith)) v.files s.generations_issued) (λ _. refl);
           }
         where
-          both : (xs : List Handle) → Agree xs v.files → All (λ h. h.generation < gens) xs → Agree xs (v.files ++ (new_file p n header gens ∷ []))
+          both : (xs : List Handle) → Agree xs v.files → AllByRecursion (λ h. h.generation < gens) xs → Agree xs (v.files ++ (new_file p n header gens ∷ []))
           both [] a b = tt
           both (h ∷ xs) a b = (All-push _ v.files (new_file p n header gens) a.0 (λ d. absurd (omega (arith, b.0))), both xs a.1 b.1)

@@ -1,6 +1,6 @@
 -- Placing names one after another sorts them.
 use Rattle.std.proofs.Common.{◌≡◌, ℕ, ◌<◌, Bool, true, false, cond, eqb, ltb, List, [], ◌∷◌, ◌++◌, map, filter, sym, refl, ap, ◌∙◌, subst, arith}
-use Rattle.std.specs.List.{AllByRecursion as All}
+use Rattle.std.specs.List.{AllByRecursion}
 use Rattle.std.specs.List.Sorted.{IsPermutation}
 use Rattle.std.proofs.lemmas.Slice.Eq.{bytes_eq-Decides}
 use Rattle.std.proofs.ByRecursion.{All-weaker}
@@ -65,12 +65,12 @@ other n m a e =
     let b : true ≡ false = sym k ∙ before_self n in
     let z : ◌≡◌ {A = ℕ} 0 1 = cc in omega arith
 
-all_placed : (P : List ℕ → Type 0) (n : List ℕ) (ms : List (List ℕ)) → P n → All P ms → All P (placed n ms)
+all_placed : (P : List ℕ → Type 0) (n : List ℕ) (ms : List (List ℕ)) → P n → AllByRecursion P ms → AllByRecursion P (placed n ms)
 all_placed P n [] p a = (p, tt)
 all_placed P n (m ∷ ms) p a =
-    cond_both (before n m) (n ∷ placed m ms) (m ∷ placed n ms) (All P) (λ e. (p, all_placed P m ms a.0 a.1)) (λ e. (a.0, all_placed P n ms p a.1))
+    cond_both (before n m) (n ∷ placed m ms) (m ∷ placed n ms) (AllByRecursion P) (λ e. (p, all_placed P m ms a.0 a.1)) (λ e. (a.0, all_placed P n ms p a.1))
 
-placed-ascends : (n : List ℕ) (ms : List (List ℕ)) → All (λ m. n ≡ m → ⊥) ms → Ascending ms → Ascending (placed n ms)
+placed-ascends : (n : List ℕ) (ms : List (List ℕ)) → AllByRecursion (λ m. n ≡ m → ⊥) ms → Ascending ms → Ascending (placed n ms)
 placed-ascends n [] d a = (tt, tt)
 placed-ascends n (m ∷ ms) d a =
     cond_both (before n m) (n ∷ placed m ms) (m ∷ placed n ms) Ascending
@@ -78,9 +78,9 @@ placed-ascends n (m ∷ ms) d a =
     (λ e. (all_placed (λ y. before m y ≡ true) n ms (before-total n m e d.0) a.0, placed-ascends n ms d.1 a.1))
 
 abbrev Apart : List (List ℕ) → List (List ℕ) → Type 0
-Apart ns ms = All (λ n. All (λ m. n ≡ m → ⊥) ms) ns
+Apart ns ms = AllByRecursion (λ n. AllByRecursion (λ m. n ≡ m → ⊥) ms) ns
 
-apart-placed : (n : List ℕ) (ns ms : List (List ℕ)) → All (λ k. n ≡ k → ⊥) ns → Apart ns ms → Apart ns (placed n ms)
+apart-placed : (n : List ℕ) (ns ms : List (List ℕ)) → AllByRecursion (λ k. n ≡ k → ⊥) ns → Apart ns ms → Apart ns (placed n ms)
 apart-placed n [] ms d a = tt
 apart-placed n (k ∷ ns) ms d a = (all_placed (λ m. k ≡ m → ⊥) n ms (λ e. d.0 (sym e)) a.0, apart-placed n ns ms d.1 a.1)
 
@@ -120,11 +120,11 @@ none_apart [] = tt
 none_apart (n ∷ ns) = (tt, none_apart ns)
 
 -- the names in one partition are distinct
-name-apart : (p : List ℕ) (f : File) (fs : List File) → in_partition p f ≡ true → All (λ k. name_of f ≡ k → ⊥) (map name_of fs)
-    → All (λ n. f.name ≡ n → ⊥) (map (λ x. x.name) (filter (in_partition p) fs))
+name-apart : (p : List ℕ) (f : File) (fs : List File) → in_partition p f ≡ true → AllByRecursion (λ k. name_of f ≡ k → ⊥) (map name_of fs)
+    → AllByRecursion (λ n. f.name ≡ n → ⊥) (map (λ x. x.name) (filter (in_partition p) fs))
 name-apart p f [] i a = tt
 name-apart p f (x ∷ fs) i a =
-    cond_both (in_partition p x) (x ∷ filter (in_partition p) fs) (filter (in_partition p) fs) (λ ys. All (λ n. f.name ≡ n → ⊥) (map (λ y. y.name) ys))
+    cond_both (in_partition p x) (x ∷ filter (in_partition p) fs) (filter (in_partition p) fs) (λ ys. AllByRecursion (λ n. f.name ≡ n → ⊥) (map (λ y. y.name) ys))
     (λ e.
     let same : f.partition ≡ x.partition = (bytes_eq-Decides f.partition p).0 i ∙ sym ((bytes_eq-Decides x.partition p).0 e) in
     ((λ k. a.0 (both same k)), name-apart p f fs i a.1))

@@ -1,6 +1,6 @@
 -- Writes, resizes, syncs, closes, removals and restarts keep a store sound.
 use Rattle.std.proofs.Common.{◌≡◌, ℕ, ◌+◌, ◌≤◌, Bool, true, false, cond, not, List, length, Some, None, Ok, Err, filter, Option, Result, sym, refl, subst, arith}
-use Rattle.std.specs.List.{AllByRecursion as All}
+use Rattle.std.specs.List.{AllByRecursion}
 use Rattle.std.specs.Str.{bytes_eq}
 use Rattle.std.proofs.ByRecursion.{All-weaker, all_kept_by}
 use Rattle.std.proofs.lemmas.List.{map-id}
@@ -85,7 +85,7 @@ sync-sound m n s = go (handle_at m.handles n) refl
     go None e = s
     go (Some h) e =
         let alter : File → List ℕ = λ f. h.live in
-        let agrees = all_found (λ (x : Handle). All (λ (f : File). x.generation ≡ f.generation → x.header ≡ f.header) m.volume.files) (numbered n) m.handles h e s.headers in
+        let agrees = all_found (λ (x : Handle). AllByRecursion (λ (f : File). x.generation ≡ f.generation → x.header ≡ f.header) m.volume.files) (numbered n) m.handles h e s.headers in
         let own = all_found (λ (x : Handle). Sized x.header x.live) (numbered n) m.handles h e s.handles.handles_sized in
         let keeps : (f : File) → found (generated h.generation) m.volume.files ≡ Some f → Sized f.header f.durable → Sized f.header (alter f) =
         λ f at q. subst (λ d. Sized d h.live)

@@ -1,6 +1,6 @@
 -- What a scan lists, in words that do not mention how it sorts.
 use Rattle.std.specs.Prelude.{◌≡◌, ℕ, true, List, [], ◌∷◌, map, filter}
-use Rattle.std.specs.List.{AllByRecursion as All}
+use Rattle.std.specs.List.{AllByRecursion}
 use Rattle.std.specs.List.Sorted.{IsPermutation}
 use Rattle.name.specs.Names.{before}
 use Rattle.name.specs.Listings.{sorted}
@@ -11,7 +11,7 @@ use Rattle.reached.specs.Calls.{Call, reached}
 -- each name comes before all that follow it
 abbrev pub Ascending : List (List ℕ) → Type 0
 Ascending [] = Unit {0}
-Ascending (n ∷ ns) = All (λ m. before n m ≡ true) ns × Ascending ns
+Ascending (n ∷ ns) = AllByRecursion (λ m. before n m ≡ true) ns × Ascending ns
 
 -- the names of a partition's files
 abbrev pub names_in : Volume → List ℕ → List (List ℕ)

@@ -1,6 +1,6 @@
 -- What the layers above a store lean on.
 use Rattle.std.specs.Prelude.{◌≡◌, ℕ, ◌<◌, ◌≤◌, true, List, [], ◌∷◌, map, length, ◌≢◌}
-use Rattle.std.specs.List.{AllByRecursion as All}
+use Rattle.std.specs.List.{AllByRecursion}
 use Rattle.content.specs.Bytes.{limit}
 use Rattle.name.specs.Names.{name_limit, is_partition}
 use Rattle.store.specs.Meaning.{File, Handle, Volume, Disk}
@@ -11,7 +11,7 @@ use Rattle.reached.specs.Calls.{Call, reached}
 -- no element stands twice
 abbrev pub Distinct : {A : Type 0} → List A → Type 0
 Distinct [] = Unit {0}
-Distinct (x ∷ xs) = All (λ y. x ≢ y) xs × Distinct xs
+Distinct (x ∷ xs) = AllByRecursion (λ y. x ≢ y) xs × Distinct xs
 
 -- a content of a header of d bytes and what is behind it
 pub record Sized (d : ℕ) (bs : List ℕ) : Type 0 where
@@ -27,26 +27,26 @@ name_of f = (f.partition, f.name)
 pub record SoundFiles (v : Volume) (generations : ℕ) : Type 0 where
   pub few_partitions : length v.partitions ≤ partition_limit
   pub few_files : length v.files ≤ file_limit
-  pub partitions_valid : All (λ p. is_partition p ≡ true) v.partitions
+  pub partitions_valid : AllByRecursion (λ p. is_partition p ≡ true) v.partitions
   pub partitions_distinct : Distinct v.partitions
-  pub files_placed : All (λ f. partition_stands v f.partition ≡ true) v.files
-  pub names_short : All (λ f. length f.name ≤ name_limit) v.files
+  pub files_placed : AllByRecursion (λ f. partition_stands v f.partition ≡ true) v.files
+  pub names_short : AllByRecursion (λ f. length f.name ≤ name_limit) v.files
   pub names_distinct : Distinct (map name_of v.files)
-  pub generations_issued : All (λ f. f.generation < generations) v.files
+  pub generations_issued : AllByRecursion (λ f. f.generation < generations) v.files
   pub generations_distinct : Distinct (map (λ f. f.generation) v.files)
-  pub files_sized : All (λ f. Sized f.header f.durable) v.files
+  pub files_sized : AllByRecursion (λ f. Sized f.header f.durable) v.files
 
 -- Handles: few, of issued and unique numbers, of issued generations, within the limits.
 pub record SoundHandles (hs : List Handle) (generations issued : ℕ) : Type 0 where
   pub few_handles : length hs ≤ handle_limit
-  pub numbers_issued : All (λ h. h.number < issued) hs
+  pub numbers_issued : AllByRecursion (λ h. h.number < issued) hs
   pub numbers_distinct : Distinct (map (λ h. h.number) hs)
-  pub generations_issued : All (λ h. h.generation < generations) hs
-  pub handles_sized : All (λ h. Sized h.header h.live) hs
+  pub generations_issued : AllByRecursion (λ h. h.generation < generations) hs
+  pub handles_sized : AllByRecursion (λ h. Sized h.header h.live) hs
 
 -- handles of a standing file have its header length
 abbrev pub Agree : List Handle → List File → Type 0
-Agree hs fs = All (λ h. All (λ f. h.generation ≡ f.generation → h.header ≡ f.header) fs) hs
+Agree hs fs = AllByRecursion (λ h. AllByRecursion (λ f. h.generation ≡ f.generation → h.header ≡ f.header) fs) hs
 
 -- A store whose parts are sound and fit each other.
 pub record Sound (m : Disk) : Type 0 where
