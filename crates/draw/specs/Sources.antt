@@ -1,6 +1,7 @@
 -- The words of the two sources: a tape of given words, and a 64-bit shift-register generator.
 use Rattle.std.specs.Prelude.{ℕ, zero, suc, ◌*◌, ◌/◌, ◌%◌, ◌^◌, ◌<◌, List, [], ◌∷◌, bit_xor, slice_index}
-use Rattle.std.proofs.Common.{arith}
+use Rattle.std.proofs.Math.Dec.{lit<}
+use Rattle.std.proofs.Math.Nat.{mod-lt}
 use Rattle.draw.specs.Words.{Words}
 
 -- one word, then the others
@@ -36,10 +37,10 @@ before-narrow x w h hs (suc k) = hs k
 
 -- the words of a tape are below 65,536
 pub tape-narrow : (xs : List ℕ) → Short xs → (k : ℕ) → tape_words xs k < 65536
-tape-narrow [] h k = omega arith
+tape-narrow [] h k = lit< tt
 tape-narrow (x ∷ xs) h k = before-narrow x (tape_words xs) (h 0) (tape-narrow xs (λ i. h (suc i))) k
 
 -- the words of the generator are below 65,536
 pub generated-narrow : (s k : ℕ) → generated s k < 65536
-generated-narrow s zero = omega arith
+generated-narrow s zero = mod-lt (stepped s) (lit< tt)
 generated-narrow s (suc k) = generated-narrow (stepped s) k

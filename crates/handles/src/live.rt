@@ -1,4 +1,4 @@
-ghost use Rattle.std.specs.Prelude.{◌≡◌, ℕ, ◌+◌, ◌<◌, ◌≤◌, map, length, get_or, None, Ok, slice_index_or, slice_set};
+ghost use Rattle.std.specs.Prelude.{◌≡◌, ℕ, ◌+◌, ◌<◌, ◌≤◌, map, length, None, Ok, slice_index_or, slice_set};
 ghost use Rattle.content.specs.Bytes.{limit, written, cut};
 ghost use Rattle.content.specs.Contents.{bytes_of};
 ghost use Rattle.store.specs.Meaning.{refused, when_ok, with_live};
@@ -112,8 +112,8 @@ impl Blob {
 /// Puts bytes at an offset of the live bytes of one row.
 fn write_row(rows: &mut [Blob], i: usize, offset: u64, bytes: &[u8])
     requires inside { i < length rows.old }
-    requires fits { (d : Row) → offset + length bytes.now + (get_or rows.old i d).header ≤ limit }
-    ensures { (d : Row) → map handle_of rows.new ≡ slice_set (map handle_of rows.old) i (with_live (handle_of (slice_index_or rows.old i d)) (written (bytes_of (get_or rows.old i d).live) ((get_or rows.old i d).header + offset) bytes.now)) }
+    requires fits { (d : Row) → offset + length bytes.now + (slice_index_or rows.old i d).header ≤ limit }
+    ensures { (d : Row) → map handle_of rows.new ≡ slice_set (map handle_of rows.old) i (with_live (handle_of (slice_index_or rows.old i d)) (written (bytes_of (slice_index_or rows.old i d).live) ((slice_index_or rows.old i d).header + offset) bytes.now)) }
 {
     rows[i].write(offset, bytes);
 }
@@ -121,8 +121,8 @@ fn write_row(rows: &mut [Blob], i: usize, offset: u64, bytes: &[u8])
 /// Cuts or zero-fills the live bytes of one row.
 fn resize_row(rows: &mut [Blob], i: usize, len: u64)
     requires inside { i < length rows.old }
-    requires fits { (d : Row) → len + (get_or rows.old i d).header ≤ limit }
-    ensures { (d : Row) → map handle_of rows.new ≡ slice_set (map handle_of rows.old) i (with_live (handle_of (slice_index_or rows.old i d)) (cut ((get_or rows.old i d).header + len) (bytes_of (get_or rows.old i d).live))) }
+    requires fits { (d : Row) → len + (slice_index_or rows.old i d).header ≤ limit }
+    ensures { (d : Row) → map handle_of rows.new ≡ slice_set (map handle_of rows.old) i (with_live (handle_of (slice_index_or rows.old i d)) (cut ((slice_index_or rows.old i d).header + len) (bytes_of (slice_index_or rows.old i d).live))) }
 {
     rows[i].resize(len);
 }

@@ -6,7 +6,6 @@ use shown::{Hex, Told};
 use std::io;
 use storage::state::Storage;
 use store::Store;
-use store::medium::Medium;
 
 const PARTITION: &[u8] = b"boot";
 

@@ -102,7 +102,7 @@ of_file v p n a = in_standing v p (when_some (file_at v p n) (λ f. Ok (a f)) (E
 abbrev pub remove_fault : List ℕ → List ℕ → Option Fault
 remove_fault p n = cond (name_too_long p || name_too_long n) (Some TooLong) None
 
--- BadPartition, PartitionMissing, BlobMissing, in this order, or done
+-- TooLong, then BadPartition, PartitionMissing, BlobMissing, in this order, or done
 abbrev pub remove_answer : Volume → List ℕ → List ℕ → Done
 remove_answer v p n = refused (remove_fault p n) (of_file v p n (λ f. tt))
 
@@ -114,7 +114,7 @@ removed v p n = when_ok (remove_answer v p n) (with_files v (without (named p n)
 abbrev pub remove_partition_fault : List ℕ → Option Fault
 remove_partition_fault p = cond (name_too_long p) (Some TooLong) None
 
--- BadPartition, then PartitionMissing, or done
+-- TooLong, then BadPartition, PartitionMissing, or done
 abbrev pub remove_partition_answer : Volume → List ℕ → Done
 remove_partition_answer v p = refused (remove_partition_fault p) (in_standing v p (Ok tt))
 

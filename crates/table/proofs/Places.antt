@@ -25,9 +25,9 @@ same-amended p g h (x ∷ xs) = go (p x) refl (same-amended p g h xs)
     go false e more = rw e (ap (λ zs. x ∷ zs) more)
 
 -- which rows pass, by what they stand for
-pub map-kept-by : {R A : Type 0} (f : R → A) (p : A → Bool) (rows : List R) → map f (filter (λ r. p (f r)) rows) ≡ filter p (map f rows)
-map-kept-by f p [] = refl
-map-kept-by f p (r ∷ rows) = go (p (f r)) refl (map-kept-by f p rows)
+pub map-filter : {R A : Type 0} (f : R → A) (p : A → Bool) (rows : List R) → map f (filter (λ r. p (f r)) rows) ≡ filter p (map f rows)
+map-filter f p [] = refl
+map-filter f p (r ∷ rows) = go (p (f r)) refl (map-filter f p rows)
   where
     go : (t : Bool) → p (f r) ≡ t → map f (filter (λ r. p (f r)) rows) ≡ filter p (map f rows) → map f (filter (λ r. p (f r)) (r ∷ rows)) ≡ filter p (map f (r ∷ rows))
     go true e more = rw e (ap (λ zs. f r ∷ zs) more)

@@ -1,6 +1,6 @@
 use Rattle.std.proofs.Common.{not, map, sym, ap, ◌∙◌, arith}
 use Rattle.std.proofs.lemmas.List.Filters.{FiltersInPlace, FiltersInPlace-all, FiltersInPlace-more_no, FiltersInPlace-more_set}
-use Rattle.table.proofs.Places.{map-kept-by}
+use Rattle.table.proofs.Places.{map-filter}
 use Rattle.store.specs.Durable.{in_partition}
 use Rattle.memory.specs.Volumes.{file_of}
 use Rattle.memory.proofs.changes.keep_others.Goals as goal
@@ -19,5 +19,5 @@ returns c =
     let k : FiltersInPlace (λ r. not (in_partition c.args.partition.now (file_of r))) c.args.files.now c.loop-i.files c.loop-i.others c.loop-i.i = c.loop-i.invariant in
     record {
       few = omega arith;
-      front = ap (λ rs. map file_of rs) (FiltersInPlace-all k (omega arith)) ∙ map-kept-by file_of (λ f. not (in_partition c.args.partition.now f)) c.args.files.now;
+      front = ap (λ rs. map file_of rs) (FiltersInPlace-all k (omega arith)) ∙ map-filter file_of (λ f. not (in_partition c.args.partition.now f)) c.args.files.now;
     }
