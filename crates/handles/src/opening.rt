@@ -1,3 +1,4 @@
+//! The table of handles: how they are opened, found and closed.
 ghost use Rattle.std.specs.Prelude.{◌≡◌, ℕ, ◌+◌, ◌<◌, false, [], length, if◌then◌else◌, Some, None, Ok, Err, MatchOption};
 ghost use Rattle.std.specs.Option.{option_map};
 ghost use Rattle.fault.specs.declared.Fault.TheVariants.{TableFull};
