@@ -1,63 +1,39 @@
--- A patch, place by place.
-use Rattle.std.proofs.Common.{◌≡◌, ℕ, zero, suc, ◌+◌, ◌-◌, ◌<◌, ◌≤◌, Bool, true, false, cond, List, [], ◌∷◌, length, get_or, take, drop, Some, None, Option, sym, refl, ap, ◌∙◌, add-one, arith}
-use Rattle.std.proofs.lemmas.List.{drop_more, drop_all}
-use Rattle.std.proofs.lemmas.Bool.{cond-true}
+-- A patch laid from its first byte on, one byte after another.
+use Rattle.std.proofs.Common.{◌≡◌, ℕ, suc, ◌<◌, Bool, true, false, List, [], ◌∷◌, length, Some, None, refl, ap, ◌∙◌, arith, rules}
+use Rattle.std.proofs.lemmas.List.{same_lists, places}
 use Rattle.content.specs.Bytes.{written}
 use Rattle.content.specs.Patches.{Patch, patch, lay}
 
-pub length-patch : (bs : List ℕ) (fs : List Bool) → length (patch bs fs) ≡ length bs
-length-patch [] fs = refl
-length-patch (b ∷ bs) [] = ap suc (length-patch bs [])
-length-patch (b ∷ bs) (f ∷ fs) = ap suc (length-patch bs fs)
+pub length_patch : (bs : List ℕ) (fs : List Bool) → length (patch bs fs) ≡ length bs
+length_patch [] fs = refl
+length_patch (b ∷ bs) [] = ap suc (length_patch bs [])
+length_patch (b ∷ bs) (f ∷ fs) = ap suc (length_patch bs fs)
 
-pub patch-at : (bs : List ℕ) (fs : List Bool) (i : ℕ) (d : Option ℕ) → i < length bs → get_or (patch bs fs) i d ≡ cond (get_or fs i false) (Some (get_or bs i 0)) None
-patch-at [] fs i d h = absurd (omega arith)
-patch-at (b ∷ bs) [] zero d h = refl
-patch-at (b ∷ bs) (f ∷ fs) zero d h = refl
-patch-at (b ∷ bs) [] (suc i) d h = patch-at bs [] i d (omega arith)
-patch-at (b ∷ bs) (f ∷ fs) (suc i) d h = patch-at bs fs i d (omega arith)
+-- two bytes at different places, in either order
+written-swap : (xs : List ℕ) (i j b c : ℕ) → i < j → written (written xs i (b ∷ [])) j (c ∷ []) ≡ written (written xs j (c ∷ [])) i (b ∷ [])
+unfolding written
+written-swap xs i j b c h = same_lists _ _ (search (rules, places)) (λ k d l. grind (arith, places))
 
-lay-flag : (xs : List ℕ) (at : ℕ) (f : Bool) (b : ℕ) (os : Patch) → lay xs at (cond f (Some b) None ∷ os) ≡ cond f (written (lay xs (suc at) os) at (b ∷ [])) (lay xs (suc at) os)
-lay-flag xs at true b os = refl
-lay-flag xs at false b os = refl
+-- a byte before a patch, in either order
+lay-written : (xs : List ℕ) (i j b : ℕ) (os : Patch) → i < j → lay (written xs i (b ∷ [])) j os ≡ written (lay xs j os) i (b ∷ [])
+lay-written xs i j b [] h = refl
+lay-written xs i j b (None ∷ os) h = lay-written xs i (suc j) b os (omega arith)
+lay-written xs i j b (Some c ∷ os) h =
+    ap (λ ys. written ys j (c ∷ [])) (lay-written xs i (suc j) b os (omega arith)) ∙ written-swap (lay xs (suc j) os) i j b c h
 
--- one byte as a part of a slice
-one_byte : (bs : List ℕ) (i : ℕ) → i < length bs → take (i + 1 - i) (drop i bs) ≡ get_or bs i 0 ∷ []
-one_byte bs i h =
-    let e : i + 1 - i ≡ 1 = omega arith in
-    rw (e, drop_more bs i 0 h) refl
+module _ (xs : List ℕ) (at : ℕ) where
+  -- a byte that is chosen is written, and the others are laid behind it
+  pub lay-chosen : (b : ℕ) (bs : List ℕ) (f : Bool) (fs : List Bool) → f ≡ true → lay (written xs at (b ∷ [])) (suc at) (patch bs fs) ≡ lay xs at (patch (b ∷ bs) (f ∷ fs))
+  lay-chosen b bs f fs e = rw e (lay-written xs at (suc at) b (patch bs fs) (omega arith))
 
--- what is laid of a patch once its places from i on are
-abbrev pub laid_from : List ℕ → ℕ → List ℕ → List Bool → ℕ → List ℕ
-laid_from xs at bs fs i = lay xs (at + i) (drop i (patch bs fs))
+  -- a byte that is not chosen is passed over
+  pub lay-skipped : (b : ℕ) (bs : List ℕ) (f : Bool) (fs : List Bool) → f ≡ false → lay xs (suc at) (patch bs fs) ≡ lay xs at (patch (b ∷ bs) (f ∷ fs))
+  lay-skipped b bs f fs e = rw e refl
 
-module _ (xs : List ℕ) (at : ℕ) (bs : List ℕ) (fs : List Bool) where
-  one_more : (j : ℕ) → j < length bs → laid_from xs at bs fs j ≡ cond (get_or fs j false) (written (laid_from xs at bs fs (suc j)) (at + j) (get_or bs j 0 ∷ [])) (laid_from xs at bs fs (suc j))
-  one_more j h =
-      let long : j < length (patch bs fs) = omega (arith, length-patch bs fs) in
-      let first : drop j (patch bs fs) ≡ cond (get_or fs j false) (Some (get_or bs j 0)) None ∷ drop (suc j) (patch bs fs) =
-      drop_more (patch bs fs) j None long ∙ (rw (add-one, patch-at bs fs j None h) refl) in
-      let next : suc (at + j) ≡ at + suc j = omega arith in
-      ap (lay xs (at + j)) first ∙ lay-flag xs (at + j) (get_or fs j false) (get_or bs j 0) (drop (suc j) (patch bs fs)) ∙ rw next refl
+-- bytes without a flag leave all as it is
+pub lay-unflagged : (xs : List ℕ) (at : ℕ) (bs : List ℕ) → lay xs at (patch bs []) ≡ xs
+lay-unflagged xs at [] = refl
+lay-unflagged xs at (b ∷ bs) = lay-unflagged xs (suc at) bs
 
-  pub lay-more : (i : ℕ) → 0 < i → i ≤ length bs
-      → laid_from xs at bs fs (i - 1) ≡ cond (get_or fs (i - 1) false) (written (laid_from xs at bs fs i) (at + (i - 1)) (get_or bs (i - 1) 0 ∷ [])) (laid_from xs at bs fs i)
-  lay-more i z h =
-      let e : suc (i - 1) ≡ i = omega arith in
-      rw e at (one_more (i - 1) (omega arith))
-
-  pub lay-none : laid_from xs at bs fs (length bs) ≡ xs
-  lay-none = ap (lay xs (at + length bs)) (drop_all (length bs) (patch bs fs) (omega (arith, length-patch bs fs)))
-
-  pub lay-all : (i : ℕ) → i ≤ 0 → laid_from xs at bs fs i ≡ lay xs at (patch bs fs)
-  lay-all i z =
-      let e : i ≡ 0 = omega arith in
-      let f : at + 0 ≡ at = omega arith in
-      rw (e, f) refl
-
-  -- a turn that stores the byte before place i
-  pub lay-byte : (i : ℕ) → 0 < i → i ≤ length bs → get_or fs (i - 1) false ≡ true → (zs : List ℕ) → zs ≡ laid_from xs at bs fs i
-      → written zs (at + (i - 1)) (take (i - 1 + 1 - (i - 1)) (drop (i - 1) bs)) ≡ laid_from xs at bs fs (i - 1)
-  lay-byte i z h chosen zs e =
-      let one = one_byte bs (i - 1) (omega arith) in
-      rw (one, e) refl ∙ sym (lay-more i z h ∙ cond-true _ _ _ chosen)
+-- what each turn of the loop that lays a patch comes by
+pub ruleset lay_turns = (lay-chosen, lay-skipped, length_patch)

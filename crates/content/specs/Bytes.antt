@@ -20,7 +20,3 @@ cut n xs = take n (filled n xs)
 -- what comes of a change that ends at a place: nothing changes where that is past the limit
 abbrev pub within : ℕ → List ℕ → List ℕ → List ℕ
 within end new old = cond (nat_le end limit) new old
-
--- a row with zeros from one place up to another, if that is further on: a step of the code, not a change of a file
-unfoldable pub zeroed : List ℕ → ℕ → ℕ → List ℕ
-zeroed xs from to = take from xs ++ (replicate (to - from) 0 ++ drop (from + (to - from)) xs)

@@ -1,5 +1,8 @@
 //! The bytes of a file or of an open handle, header included: at most 1,016.
 #![tactic(auto)]
 
-pub mod changes;
-pub mod row;
+mod bytes;
+mod patch;
+
+pub use bytes::{Content, LIMIT, ends_within};
+pub use patch::Patch;

@@ -1,6 +1,6 @@
 -- The loops that write a selection flag by flag.
-use Rattle.std.proofs.Common.{◌≡◌, ℕ, suc, ◌+◌, ◌-◌, ◌*◌, ◌<◌, ◌≤◌, Bool, true, false, cond, List, [], ◌∷◌, ◌++◌, length, take, set, replicate, refl, ap, ◌∙◌, suc-mul, zero-mul, arith}
-use Rattle.std.proofs.lemmas.List.{take_more_set, take_all, append_assoc, append-nil}
+use Rattle.std.proofs.Common.{◌≡◌, ℕ, suc, ◌+◌, ◌-◌, ◌*◌, ◌<◌, Bool, true, false, cond, List, ◌∷◌, ◌++◌, length, take, set, replicate, refl, ap, ◌∙◌, suc-mul, arith}
+use Rattle.std.proofs.lemmas.List.{take_more_set, append_assoc}
 use Rattle.draw.specs.Words.{Words, after, rolled, roll_taken}
 use Rattle.draw.specs.Selections.{prefix, prefix_taken, subset, subset_taken}
 use Rattle.draw.proofs.Counts.{after-after}
@@ -15,19 +15,11 @@ onward_taken going rate n w = cond going (prefix_taken rate n w) 0
 -- one roll of a prefix: the flag that it gives, and what is to come after it
 module _ (rate m : ℕ) (w v : Words) (b : Bool) where
   onward-more : (going : Bool) → b ≡ cond going (rolled rate w) false → v ≡ after (cond going (roll_taken rate) 0) w → onward going rate (suc m) w ≡ b ∷ onward b rate m v
-  onward-more true said left = rw (said, left) (go (rolled rate w))
-    where
-      go : (r : Bool) → cond r (true ∷ prefix rate m (after (roll_taken rate) w)) (replicate (suc m) false) ≡ r ∷ cond r (prefix rate m (after (roll_taken rate) w)) (replicate m false)
-      go true = refl
-      go false = refl
+  onward-more true said left = grind (arith, said, left)
   onward-more false said left = rw said refl
 
   onward_taken-more : (going : Bool) → b ≡ cond going (rolled rate w) false → v ≡ after (cond going (roll_taken rate) 0) w → after (onward_taken b rate m v) v ≡ after (onward_taken going rate (suc m) w) w
-  onward_taken-more true said left = rw (said, left) (go (rolled rate w))
-    where
-      go : (r : Bool) → after (cond r (prefix_taken rate m (after (roll_taken rate) w)) 0) (after (roll_taken rate) w) ≡ after (cond r (roll_taken rate + prefix_taken rate m (after (roll_taken rate) w)) (roll_taken rate)) w
-      go true = after-after (prefix_taken rate m (after (roll_taken rate) w)) (roll_taken rate) w
-      go false = refl
+  onward_taken-more true said left = grind (arith, said, left, after-after (prefix_taken rate m (after (roll_taken rate) w)) (roll_taken rate) w)
   onward_taken-more false said left = rw (said, left) refl
 
 -- a turn of either loop, which writes the flag b at i
@@ -55,24 +47,5 @@ module _ (out : List Bool) (n i : ℕ) (h : i < n) (len : length out ≡ n) wher
     pub prefix-left : (going : Bool) → b ≡ cond going (rolled rate w) false → v ≡ after (cond going (roll_taken rate) 0) w → after (onward_taken b rate (n - (i + 1)) v) v ≡ after (onward_taken going rate (n - i) w) w
     prefix-left going said left = rw less (onward_taken-more rate (n - (i + 1)) w v b going said left)
 
--- the end of either loop
-module _ (out : List Bool) (n i : ℕ) (h : n ≤ i) (len : length out ≡ n) (rate : ℕ) (w : Words) where
-  none : n - i ≡ 0
-  none = omega arith
-
-  whole : take i out ++ [] ≡ out
-  whole = let m : length out ≤ i = omega arith in rw (take_all i out m) (append-nil out)
-
-  pub subset-all : take i out ++ subset rate (n - i) w ≡ out
-  subset-all = rw none whole
-
-  pub subset-left-all : after (subset_taken rate (n - i)) w ≡ w
-  subset-left-all = rw (none, zero-mul) refl
-
-  pub prefix-all : (going : Bool) → take i out ++ onward going rate (n - i) w ≡ out
-  prefix-all true = rw none whole
-  prefix-all false = rw none whole
-
-  pub prefix-left-all : (going : Bool) → after (onward_taken going rate (n - i) w) w ≡ w
-  prefix-left-all true = rw none refl
-  prefix-left-all false = refl
+-- a turn of either loop, for the tactic
+pub ruleset turns = (subset-flags, subset_left, prefix-flags, prefix-left)

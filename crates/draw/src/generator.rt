@@ -35,6 +35,7 @@ impl Source for Generator {
 
     fn next(&mut self) -> u16 {
         self.state = step(self.state);
+        // no `From` between these; the cast is proved to lose nothing
         (self.state % 65536) as u16
     }
 }

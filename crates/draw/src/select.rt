@@ -19,13 +19,17 @@ pub fn select<S: Source>(source: &mut S, mode: PartialWriteMode, rate: u64, chos
     ensures flags { chosen.new ≡ selected mode rate (length chosen.old) (S.Source.words source.old) }
     ensures left { S.Source.words source.new ≡ after (select_taken mode rate (length chosen.old) (S.Source.words source.old)) (S.Source.words source.old) }
 {
+    // a mode is data: a log entry keeps it
     match mode {
         PartialWriteMode::Prefix => prefix(source, rate, chosen),
         PartialWriteMode::Subset => subset(source, rate, chosen),
     }
 }
 
+// Two loops, since one stops drawing at the first no and the other never.
+
 /// Rolls for each place until the first no, and chooses the places before it.
+#[tactic(auto, using(crate::proofs::Flags::turns))]
 fn prefix<S: Source>(source: &mut S, rate: u64, chosen: &mut [bool])
     ensures flags { chosen.new ≡ the_prefix rate (length chosen.old) (S.Source.words source.old) }
     ensures left { S.Source.words source.new ≡ after (prefix_taken rate (length chosen.old) (S.Source.words source.old)) (S.Source.words source.old) }
@@ -46,6 +50,7 @@ fn roll_on<S: Source>(source: &mut S, going: bool, rate: u64) -> bool
 }
 
 /// Chooses each place by a roll of its own.
+#[tactic(auto, using(crate::proofs::Flags::turns))]
 fn subset<S: Source>(source: &mut S, rate: u64, chosen: &mut [bool])
     ensures flags { chosen.new ≡ the_subset rate (length chosen.old) (S.Source.words source.old) }
     ensures left { S.Source.words source.new ≡ after (subset_taken rate (length chosen.old)) (S.Source.words source.old) }

@@ -15,6 +15,8 @@ pub trait Source {
         ensures left { words self.new ≡ rest (words self.old) };
 }
 
+// A source is the caller's and a rate one number of the call: they stay two parameters.
+
 /// Whether the next word is below `rate`. Rate 0 says no and rate 65,536 says yes, without a word.
 pub fn roll<S: Source>(source: &mut S, rate: u64) -> bool
     ensures said { result ≡ rolled rate (S.Source.words source.old) }

@@ -15,17 +15,8 @@ impl<'a> Tape<'a> {
     pub fn new(words: &'a [u16]) -> Self
         ensures { tape_words result.words.now ≡ tape_words words.now }
     {
-        Tape {
-            words: whole(words),
-        }
+        Tape { words }
     }
-}
-
-/// The same slice. A slice that a call is lent is known to hold only words that fit 16 bits.
-fn whole(words: &[u16]) -> &[u16]
-    ensures { result.now ≡ words.now }
-{
-    words
 }
 
 impl<'a> Source for Tape<'a> {

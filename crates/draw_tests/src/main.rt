@@ -25,6 +25,8 @@ fn main(rt: HostRuntime) -> io::Result<()> {
     Ok(())
 }
 
+// One function for each kind of line, since each tells other draws.
+
 /// The first hundred words from a state.
 fn generator(rt: HostRuntime, state: u64) -> io::Result<()> {
     println!(rt; "generator from {state}")?;

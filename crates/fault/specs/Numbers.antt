@@ -3,6 +3,8 @@
 use Rattle.std.specs.Prelude.{ℕ, Some, None, Option}
 use Rattle.fault.specs.declared.Op.{Op}
 use Rattle.fault.specs.declared.Op.TheVariants.{Open, Read, Write, Sync, Resize, Remove, Scan}
+use Rattle.fault.specs.declared.Layer.{Layer}
+use Rattle.fault.specs.declared.Layer.TheVariants.{Register, Injection, Store}
 use Rattle.fault.specs.declared.Fault.{Fault}
 use Rattle.fault.specs.declared.Fault.TheVariants.{NoHandle, NoTicket, TooLong, WriteOverflow, ReadOverflow, BadRate, ShortArea, NoSpace, TableFull, TicketsFull, LogFull, Injected, BadPartition, PartitionMissing, BlobMissing, AlreadyOpen, InsufficientLength}
 
@@ -36,25 +38,31 @@ number BlobMissing = 12
 number AlreadyOpen = 13
 number InsufficientLength = 14
 
--- the layer of each fault: 1 register, 2 injection and log, 3 store
-abbrev pub layer : Fault → ℕ
-layer NoHandle = 3
-layer NoTicket = 2
-layer TooLong = 3
-layer WriteOverflow = 2
-layer ReadOverflow = 3
-layer BadRate = 2
-layer ShortArea = 3
-layer NoSpace = 3
-layer TableFull = 3
-layer TicketsFull = 2
-layer LogFull = 2
-layer (Injected op) = 2
-layer BadPartition = 3
-layer PartitionMissing = 3
-layer BlobMissing = 3
-layer AlreadyOpen = 1
-layer InsufficientLength = 3
+-- the number of each layer: 1 register, 2 injection and log, 3 store
+abbrev pub layer_number : Layer → ℕ
+layer_number Register = 1
+layer_number Injection = 2
+layer_number Store = 3
+
+-- the layer of each fault
+abbrev pub layer : Fault → Layer
+layer NoHandle = Store
+layer NoTicket = Injection
+layer TooLong = Store
+layer WriteOverflow = Injection
+layer ReadOverflow = Store
+layer BadRate = Injection
+layer ShortArea = Store
+layer NoSpace = Store
+layer TableFull = Store
+layer TicketsFull = Injection
+layer LogFull = Injection
+layer (Injected op) = Injection
+layer BadPartition = Store
+layer PartitionMissing = Store
+layer BlobMissing = Store
+layer AlreadyOpen = Register
+layer InsufficientLength = Store
 
 -- the detail of an injected fault: the number of its operation; no other fault has one
 abbrev pub detail : Fault → Option ℕ

@@ -2,7 +2,8 @@
 #![tactic(auto)]
 
 ghost use Rattle.std.specs.Prelude.{◌≡◌};
-ghost use Rattle.fault.specs.Numbers.{operation, number, layer, detail};
+ghost use Rattle.std.specs.Option.{option_map};
+ghost use Rattle.fault.specs.Numbers.{operation, layer_number, number, layer, detail};
 
 /// The operations that an injected fault can strike.
 #[derive(Clone, Copy, PartialEq, Eq, Debug)]
@@ -16,12 +17,12 @@ pub enum Op {
     Scan,
 }
 
-impl Op {
-    /// The detail of an injected fault.
-    pub fn code(self) -> u8
-        ensures { result ≡ operation self }
-    {
-        match self {
+/// The detail of an injected fault.
+impl From<Op> for u8 {
+    ghost from_gives = { λ op n. n ≡ operation op };
+
+    fn from(op: Op) -> Self {
+        match op {
             Op::Open => 1,
             Op::Read => 2,
             Op::Write => 3,
@@ -29,6 +30,30 @@ impl Op {
             Op::Resize => 5,
             Op::Remove => 6,
             Op::Scan => 7,
+        }
+    }
+}
+
+/// The layers that a fault comes from.
+#[derive(Clone, Copy, PartialEq, Eq, Debug)]
+pub enum Layer {
+    /// The register of open files.
+    Register,
+    /// Injection and the log.
+    Injection,
+    /// The store.
+    Store,
+}
+
+/// The number of a layer.
+impl From<Layer> for u8 {
+    ghost from_gives = { λ layer n. n ≡ layer_number layer };
+
+    fn from(layer: Layer) -> Self {
+        match layer {
+            Layer::Register => 1,
+            Layer::Injection => 2,
+            Layer::Store => 3,
         }
     }
 }
@@ -74,6 +99,8 @@ pub enum Fault {
 }
 
 impl Fault {
+    /// The fault's number, which two faults of different layers may share.
+    // A number and no enum, since it is what is printed and compared.
     pub fn number(self) -> u8
         ensures { result ≡ number self }
     {
@@ -95,26 +122,28 @@ impl Fault {
         }
     }
 
-    pub fn layer(self) -> u8
+    /// The layer that the fault comes from.
+    pub fn layer(self) -> Layer
         ensures { result ≡ layer self }
     {
         match self {
-            Fault::AlreadyOpen => 1,
+            Fault::AlreadyOpen => Layer::Register,
             Fault::NoTicket
             | Fault::WriteOverflow
             | Fault::BadRate
             | Fault::TicketsFull
             | Fault::LogFull
-            | Fault::Injected(_) => 2,
-            _ => 3,
+            | Fault::Injected(_) => Layer::Injection,
+            _ => Layer::Store,
         }
     }
 
-    pub fn detail(self) -> Option<u8>
-        ensures { result ≡ detail self }
+    /// The operation that an injected fault struck; no other fault has a detail.
+    pub fn detail(self) -> Option<Op>
+        ensures { option_map operation result ≡ detail self }
     {
         match self {
-            Fault::Injected(op) => Some(op.code()),
+            Fault::Injected(op) => Some(op),
             _ => None,
         }
     }

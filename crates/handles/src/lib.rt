@@ -1,8 +1,6 @@
-//! Open handles, each with live bytes of its own: the half of a store that a restart ends.
+//! The open handles of a store, each with live bytes of its own: what a restart ends.
 #![tactic(auto)]
 
-pub mod blob;
-pub mod limits;
-pub mod live;
-pub mod opening;
-pub mod rows;
+mod held;
+
+pub use held::{HANDLE_LIMIT, Handles, ISSUE_LIMIT};

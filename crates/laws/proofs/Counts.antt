@@ -1,6 +1,7 @@
 -- Each call keeps the sizes, and so the size promise holds.
-use Rattle.std.proofs.Common.{◌≡◌, ℕ, ◌+◌, ◌^◌, ◌<◌, ◌≤◌, Bool, true, false, cond, not, eqb, ltb, leb, ◌⊎◌, List, [], ◌∷◌, ◌++◌, map, length, is_some, Some, None, Ok, Err, Decides, filter, Option, Result, sym, refl, ap, ◌∙◌, subst, inl, inr, arith, rules}
-use Rattle.std.specs.List.{AllByRecursion}
+use Rattle.std.proofs.Common.{◌≡◌, ℕ, ◌+◌, ◌^◌, ◌<◌, ◌≤◌, Bool, true, false, cond, not, eqb, ltb, leb, ◌⊎◌, List, [], ◌∷◌, ◌++◌, map, length, Some, None, Ok, Err, Decides, filter, Option, Result, sym, refl, ap, ◌∙◌, subst, inl, inr, arith, rules}
+use Rattle.std.proofs.lemmas.Bool.Decides.{nat_tests}
+use Rattle.std.specs.Result.{is_ok}
 use Rattle.std.specs.Str.{bytes_eq}
 use Rattle.std.proofs.lemmas.List.{same_lists, places}
 use Rattle.std.proofs.ByRecursion.{All-weaker, All-push}
@@ -12,16 +13,19 @@ use Rattle.fault.specs.declared.Fault.TheVariants.{BadRate, AlreadyOpen, Injecte
 use Rattle.draw.specs.Words.{Words, after, rolled, roll_taken}
 use Rattle.content.specs.Bytes.{limit}
 use Rattle.name.specs.Names.{is_partition}
-use Rattle.table.specs.Tables.{found, without}
-use Rattle.table.proofs.Keys.{found-without-other, found-without-none, found-kept-none, found_push_other, found-push-new, found-push-same}
-use Rattle.table.proofs.Finds.{without-none}
-use Rattle.store.specs.Meaning.{File, Handle, Disk, Volume, Done, with_files, with_volume, when_some, when_ok}
+use Rattle.std.specs.List.{find}
+use Rattle.store.specs.Tables.{without}
+use Rattle.store.proofs.Keys.{found-without-other, found-without-none, found-kept-none, found_push_other, found-push-new, found-push-same}
+use Rattle.store.proofs.Finds.{without-none}
+use Rattle.store.specs.declared.file.File.{File}
+use Rattle.store.specs.declared.handle.Handle.{Handle}
+use Rattle.store.specs.Meaning.{Disk, Volume, Done, with_files, with_volume, when_some, when_ok}
 use Rattle.store.specs.Live.{numbered, handle_at, closed, held_fault, read_of, read_bytes}
-use Rattle.store.specs.Durable.{named, generated, in_partition, file_at, file_of, new_file, opened_file, opened_volume, remove_fault, remove_answer, removed, remove_partition_fault, remove_partition_answer, removed_partition, durable_replaced}
+use Rattle.store.specs.Durable.{named, generated, in_partition, file_of, new_file, opened_file, opened_volume, remove_fault, remove_answer, removed, remove_partition_fault, remove_partition_answer, removed_partition, durable_replaced}
 use Rattle.store.specs.Whole.{open_fault, open_answer, opened, closed_disk, synced}
 use Rattle.steps.specs.Log.{replayed}
 use Rattle.steps.specs.State.{Faulty, Bench, Outcome, Size, Rates, Ticket, rate_of}
-use Rattle.steps.specs.Faulty.{turned, struck, rolling, done, is_size, sizes_with, open_step, read_step, remove_step, remove_partition_step, write_step, resize_step, sync_step, is_done, start_sync_step, settle_step, close_step, configure_step, bad_rates, restart_step, crash_step}
+use Rattle.steps.specs.Faulty.{turned, struck, rolling, done, is_size, sizes_with, open_step, read_step, remove_step, remove_partition_step, write_step, resize_step, sync_step, start_sync_step, settle_step, close_step, configure_step, bad_rates, restart_step, crash_step}
 use Rattle.steps.specs.Register.{leased, lifted, registered, open_call}
 use Rattle.steps.specs.Calls.{Call, Open, Remove, Scan, Read, Write, Resize, Size as AskSize, Sync, StartSync, Settle, Close, Configure, Look, Crash, Restart, Told, stretch, replaced, within, below, step}
 use Rattle.reached.specs.Sound.{Sound, Sized, Distinct}
@@ -31,24 +35,15 @@ use Rattle.laws.specs.Promises.{Watched, watch, watched, begun, ledger, left, Re
 use Rattle.laws.proofs.Places.{none-some}
 use Rattle.laws.proofs.Promise.{GoodNow, watch-good, all-good, watched-bench}
 use Rattle.laws.proofs.Replay.{crash-none}
-use Rattle.laws.proofs.Files.{gone-without}
+use Rattle.laws.proofs.Files.{gone-without, unissued}
 use Rattle.laws.proofs.Walks.{after-turned, after-rolling, write-walk, resize-walk, sync-walk, start-walk}
 use Rattle.laws.proofs.Good.{Good, settling, Quiet, scan-quiet, read-quiet, size-quiet, look-quiet}
 use Rattle.laws.proofs.Opens.{opened_ok, first_size, opened-ok}
 use Rattle.laws.proofs.Sizes.{SizeInv, NoneNew, none-new-from, none-new-changed, sizes-fewer, write-sizes, resize-sizes, ran-sizes}
 
--- nothing is found by a number that all rows are below
-pub unissued : {A : Type 0} (key : A → ℕ) (k : ℕ) (xs : List A) → AllByRecursion (λ x. key x < k) xs → found (λ x. eqb (key x) k) xs ≡ None
-unissued key k [] a = refl
-unissued key k (x ∷ xs) a = let l = a.0 in rw (ne_eqb (key x) k (omega arith)) (unissued key k xs a.1)
-
 -- an old generation has the file that it had
 opened-old : (v : Volume) (p n header : List ℕ) (gens g : ℕ) → g < gens → file_of (opened_volume v p n header gens) g ≡ file_of v g
-opened-old v p n header gens g l = go (file_at v p n)
-  where
-    go : (o : Option File) → found (generated g) (cond (is_some o) v.files (v.files ++ (new_file p n header gens ∷ []))) ≡ file_of v g
-    go (Some f) = refl
-    go None = found_push_other (generated g) v.files (new_file p n header gens) (ne_eqb gens g (omega arith))
+opened-old v p n header gens g l = grind (arith, nat_tests, found_push_other (generated g) v.files (new_file p n header gens))
 
 open-ok-sizes : (m : Disk) (p n header : List ℕ) (ss : List Size) → Sound m → Sound (opened_ok m p n header) → SizeInv m ss
     → SizeInv (opened_ok m p n header) (ss ++ (record { handle = m.issued; size = first_size m p n header } ∷ []))
@@ -58,7 +53,7 @@ open-ok-sizes m p n header ss snd after i = record {
 }
   where
     go : (k : ℕ) (h : Handle) → handle_at (opened_ok m p n header).handles k ≡ Some h → (m.issued ≡ k) ⊎ (m.issued ≡ k → ⊥)
-        → (s : Size) × (found (is_size k) (ss ++ (record { handle = m.issued; size = first_size m p n header } ∷ [])) ≡ Some s)
+        → (s : Size) × (find (is_size k) (ss ++ (record { handle = m.issued; size = first_size m p n header } ∷ [])) ≡ Some s)
         × ((f : File) → file_of (opened_ok m p n header).volume h.generation ≡ Some f → s.size + h.header ≡ length h.live)
     go k h q (inl t) =
         let none = unissued (λ (x : Handle). x.number) k m.handles (All-weaker _ _ (λ x l. omega arith) m.handles snd.handles.numbers_issued) in
@@ -108,7 +103,7 @@ close-sizes m n ss snd i = record {
 }
   where
     go : (k : ℕ) (h : Handle) → handle_at (closed m.handles n) k ≡ Some h → (n ≡ k) ⊎ (n ≡ k → ⊥)
-        → (s : Size) × (found (is_size k) (without (is_size n) ss) ≡ Some s) × ((f : File) → file_of m.volume h.generation ≡ Some f → s.size + h.header ≡ length h.live)
+        → (s : Size) × (find (is_size k) (without (is_size n) ss) ≡ Some s) × ((f : File) → file_of m.volume h.generation ≡ Some f → s.size + h.header ≡ length h.live)
     go k h q (inl t) =
         absurd (none-some (closed_none m.handles n snd.handles.numbers_distinct) (ap (handle_at (closed m.handles n)) t ∙ q))
     go k h q (inr d) =
@@ -178,7 +173,7 @@ module _ (b : Faulty) (snd : Sound b.store) (i : Counted b) where
   start-next h = start-walk SizeInv b i synced-next h
 
   settle-next : (t : ℕ) → Counted (settle_step b t).next
-  settle-next t = go (found (λ k. eqb k.number t) b.tickets)
+  settle-next t = go (find (λ k. eqb k.number t) b.tickets)
     where
       go : (o : Option Ticket) → Counted (settling b t o).next
       go None = i
@@ -253,11 +248,11 @@ read_held : (b : Faulty) (n offset : ℕ) (area : List ℕ) (h : Handle) → han
     (done (read_of h offset (length area)) (when_ok (read_of h offset (length area)) (read_bytes h offset (length area)) area) (roll_taken (rate_of b.rates.reads)) b)
 read_held b n offset area h e = rw e
 
-read-decides : (h : Handle) (offset len size : ℕ) → size + h.header ≡ length h.live → length h.live ≤ limit → Decides (is_done (read_of h offset len)) (offset + len ≤ size)
+read-decides : (h : Handle) (offset len size : ℕ) → size + h.header ≡ length h.live → length h.live ≤ limit → Decides (is_ok (read_of h offset len)) (offset + len ≤ size)
 read-decides h offset len size e l = go (ltb (offset + len + h.header) (2 ^ 64)) refl (leb (offset + len + h.header) (length h.live)) refl
   where
     go : (s : Bool) → ltb (offset + len + h.header) (2 ^ 64) ≡ s → (t : Bool) → leb (offset + len + h.header) (length h.live) ≡ t
-        → Decides (is_done (cond s (cond t (Ok tt) (Err InsufficientLength)) (Err ReadOverflow))) (offset + len ≤ size)
+        → Decides (is_ok {T = Unit {0}} (cond s (cond t (Ok tt) (Err InsufficientLength)) (Err ReadOverflow))) (offset + len ≤ size)
     go true p true q = ((λ _. let k = leb-true _ _ q in omega arith), λ _. refl)
     go true p false q = ((λ z. absurd (false≢true z)), λ z. absurd (let k = leb-false _ _ q in omega arith))
     go false p t q = ((λ z. absurd (false≢true z)), λ z. absurd (let k = ltb-false _ _ p in omega arith))
@@ -278,12 +273,12 @@ module _ (b : Bench) (snd : Sound b.under.store) (i : Counted b.under) (n : ℕ)
     stays = λ t. kept (read_of h offset (length (stretch area start len))) t;
   }
     where
-      go : (r : Done) → is_done r ≡ true
+      go : (r : Done) → is_ok r ≡ true
           → replaced area start (when_ok r (read_bytes h offset (length (stretch area start len))) (stretch area start len)) ≡ replaced area start (read_bytes h offset (length (stretch area start len)))
       go (Ok u) t = refl
       go (Err g) t = absurd (false≢true t)
 
-      kept : (r : Done) → is_done r ≡ false → replaced area start (when_ok r (read_bytes h offset (length (stretch area start len))) (stretch area start len)) ≡ area
+      kept : (r : Done) → is_ok r ≡ false → replaced area start (when_ok r (read_bytes h offset (length (stretch area start len))) (stretch area start len)) ≡ area
       kept (Ok u) t = absurd (false≢true (sym t))
       kept (Err g) t = put_back area start len
 

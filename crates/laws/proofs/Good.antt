@@ -1,16 +1,18 @@
 -- What holds between a bench and the ledger beside it after every call; and the calls that leave the ledger as it is.
-use Rattle.std.proofs.Common.{◌≡◌, ℕ, ◌+◌, ◌<◌, Bool, true, false, cond, eqb, ltb, List, [], ◌∷◌, length, Some, None, Ok, Err, Option, Result, sym, refl, ap, ◌∙◌, subst, arith}
+use Rattle.std.proofs.Common.{◌≡◌, ℕ, ◌+◌, ◌<◌, Bool, true, false, cond, eqb, List, [], ◌∷◌, length, Some, None, Ok, Err, Option, Result, sym, refl, ap, ◌∙◌, subst, arith}
 use Rattle.std.specs.List.{AllByRecursion}
 use Rattle.std.proofs.lemmas.Bool.{cond_both, eqb-true}
-use Rattle.fault.specs.Numbers.{number}
 use Rattle.fault.specs.declared.Op.{Op as Operation}
 use Rattle.fault.specs.declared.Fault.{Fault}
 use Rattle.fault.specs.declared.Fault.TheVariants.{NoTicket, BadRate}
 use Rattle.draw.specs.Words.{Words, after, rolled, roll_taken}
 use Rattle.draw.specs.Selections.{selected, select_taken}
-use Rattle.table.specs.Tables.{found, without}
+use Rattle.std.specs.List.{find}
+use Rattle.store.specs.Tables.{without}
 use Rattle.fault.specs.declared.Op.TheVariants as Op
-use Rattle.store.specs.Meaning.{File, Handle, Volume, Done, with_files, with_volume, when_some}
+use Rattle.store.specs.declared.file.File.{File}
+use Rattle.store.specs.declared.handle.Handle.{Handle}
+use Rattle.store.specs.Meaning.{Volume, Done, with_files, with_volume, when_some}
 use Rattle.store.specs.Live.{numbered, handle_at, held_fault}
 use Rattle.store.specs.Durable.{generated, file_of, scan_fault, crash_written, crash_resized}
 use Rattle.steps.specs.Log.{Entry, Wrote, Resized, Marked, marks, kept, settled, replayed}
@@ -78,12 +80,8 @@ early-cond false f g a b = b
 
 pub least-none : (f g : Option Fault) → least f g ≡ None → (f ≡ None) × (g ≡ None)
 least-none None g e = (refl, e)
-least-none (Some f) None e = absurd (let z : ◌≡◌ {A = ℕ} 0 1 = cc in omega arith)
-least-none (Some f) (Some g) e = absurd (cond_both (ltb (number g) (number f)) (Some g) (Some f) (λ o. o ≡ None → ⊥) (λ _ q. (let z : ◌≡◌ {A = ℕ} 0 1 = cc in omega arith)) (λ _ q. (let z : ◌≡◌ {A = ℕ} 0 1 = cc in omega arith)) e)
-
-pub early-some : (f : Option Fault) (g : Fault) → Early f → f ≡ Some g → early_fault g ≡ true
-early-some None g a e = absurd (let z : ◌≡◌ {A = ℕ} 0 1 = cc in omega arith)
-early-some (Some f) g a e = let s : f ≡ g = cc in ap early_fault (sym s) ∙ a
+least-none (Some f) None e = cc
+least-none (Some f) (Some g) e = grind arith
 
 module _ (b : Faulty) (pages : ℕ → Page) (snd : Sound b.store) (kp : KeptIn b pages) where
   pub unchanged : Good b (note_of b pages)
@@ -210,7 +208,7 @@ module _ (b : Faulty) (pages : ℕ → Page) (snd : Sound b.store) (kp : KeptIn 
 
   -- settling leaves what a crash would replay
   pub settle-good : (t : ℕ) → Goes b pages (Settle t) Told (settle_step b t)
-  settle-good t = go (found (λ k. eqb k.number t) b.tickets)
+  settle-good t = go (find (λ k. eqb k.number t) b.tickets)
     where
       go : (o : Option Ticket) → Goes b pages (Settle t) Told (settling b t o)
       go None = unchanged b pages snd kp

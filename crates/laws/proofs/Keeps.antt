@@ -1,14 +1,15 @@
 -- All files: each change of the bench keeps what holds between pages, durable bytes and log, at every place of every file.
 use Rattle.std.proofs.Common.{◌≡◌, ℕ, ◌+◌, ◌<◌, ◌≤◌, Bool, true, false, cond, eqb, leb, ◌⊎◌, List, [], ◌∷◌, length, Some, None, Option, sym, refl, ◌∙◌, inl, inr, arith}
-use Rattle.std.specs.List.{AllByRecursion}
+use Rattle.std.specs.List.{AllByRecursion, fold}
 use Rattle.std.proofs.lemmas.Bool.{ne_eqb, eq-eqb, cond-true}
 use Rattle.draw.specs.Words.{Words}
 use Rattle.draw.specs.declared.select.PartialWriteMode.{PartialWriteMode}
 use Rattle.content.specs.Bytes.{limit}
 use Rattle.content.specs.Patches.{Patch}
-use Rattle.store.specs.Meaning.{File, Volume, with_durable}
+use Rattle.store.specs.declared.file.File.{File}
+use Rattle.store.specs.Meaning.{Volume, with_durable}
 use Rattle.store.specs.Durable.{file_of}
-use Rattle.steps.specs.Log.{Entry, Wrote, Resized, recorded, idle, resizes, fixed, dropped_all, replayed}
+use Rattle.steps.specs.Log.{Entry, Wrote, Resized, recorded, idle, resizes, fixed, replayed, dropped}
 use Rattle.laws.specs.Pages.{held, reach, Page, fix_whole, fix_range, put_range, mark_all, Allowed}
 use Rattle.laws.specs.Ledger.{turned, content_of}
 use Rattle.laws.proofs.Places.{Over, idle-reach}
@@ -137,15 +138,15 @@ kept-made {v} {v'} {gens} {es} {pages} f here others k = record {
 
 -- files are removed, with the entries of their generations
 pub kept-removed : {v v' : Volume} {gens : ℕ} {es : List Entry} {pages : ℕ → Page} (gs : List ℕ)
-    → ((h : ℕ) → (file_of v' h ≡ None) ⊎ ((file_of v' h ≡ file_of v h) × AllByRecursion (λ x. x ≡ h → ⊥) gs)) → Kept v gens es pages → Kept v' gens (dropped_all es gs) pages
+    → ((h : ℕ) → (file_of v' h ≡ None) ⊎ ((file_of v' h ≡ file_of v h) × AllByRecursion (λ x. x ≡ h → ⊥) gs)) → Kept v gens es pages → Kept v' gens (fold dropped es gs) pages
 kept-removed {v} {v'} {gens} {es} {pages} gs ways k = record {
   stands = λ h p. go h p (ways h);
   unissued = λ h d le. since-dropped-none h d es gs (k.unissued h d le);
 }
   where
-    go : (h p : ℕ) → (file_of v' h ≡ None) ⊎ ((file_of v' h ≡ file_of v h) × AllByRecursion (λ x. x ≡ h → ⊥) gs) → At p h (pages h) (dropped_all es gs) (file_of v' h)
+    go : (h p : ℕ) → (file_of v' h ≡ None) ⊎ ((file_of v' h ≡ file_of v h) × AllByRecursion (λ x. x ≡ h → ⊥) gs) → At p h (pages h) (fold dropped es gs) (file_of v' h)
     go h p (inl e) = rw e tt
-    go h p (inr e) = rw e.0 (at_same p h (pages h) es (dropped_all es gs) (file_of v h) (λ d. since-dropped-all h d es gs e.1) (k.stands h p))
+    go h p (inr e) = rw e.0 (at_same p h (pages h) es (fold dropped es gs) (file_of v h) (λ d. since-dropped-all h d es gs e.1) (k.stands h p))
 
 -- the log is emptied, with or without a crash
 pub kept-crash : {gens : ℕ} (v' : Volume) → Kept v' gens [] (λ g. fix_whole (content_of (file_of v' g)))

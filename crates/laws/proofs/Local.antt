@@ -1,5 +1,7 @@
 -- A call sees only the words that it takes, and leaves the words after them.
-use Rattle.std.proofs.Common.{◌≡◌, ℕ, zero, suc, ◌+◌, ◌-◌, ◌≤◌, min, max, Bool, true, false, cond, not, ◌&&◌, eqb, ltb, List, [], ◌∷◌, ◌++◌, length, Some, None, Ok, Err, filter, Option, Result, sym, refl, ap, ◌∙◌, subst, arith}
+use Rattle.std.proofs.Common.{◌≡◌, ℕ, zero, suc, ◌+◌, ◌-◌, ◌≤◌, min, max, Bool, true, false, cond, not, ◌&&◌, eqb, ltb, List, [], ◌∷◌, ◌++◌, length, Some, None, Ok, Err, filter, Option, Result, sym, refl, ap, ◌∙◌, subst, arith, map}
+use Rattle.draw.proofs.Counts.{after-after}
+use Rattle.std.specs.Result.{is_ok}
 use mathlib.Core.Path.{fun_ext}
 use Rattle.std.specs.Str.{bytes_eq}
 use Rattle.std.proofs.lemmas.Bool.{cond-true, cond-false, cond_both}
@@ -11,17 +13,18 @@ use Rattle.draw.specs.Words.{Words, after, rolled, roll_taken, picked, pick_take
 use Rattle.draw.specs.Selections.{prefix_taken, selected, select_taken}
 use Rattle.draw.specs.declared.select.PartialWriteMode.{PartialWriteMode}
 use Rattle.draw.specs.declared.select.PartialWriteMode.TheVariants.{Prefix, Subset}
-use Rattle.table.specs.Tables.{found, without}
+use Rattle.std.specs.List.{find}
+use Rattle.store.specs.Tables.{without}
 use Rattle.store.specs.Meaning.{Disk, Volume, Done, when_some, when_ok, refused}
 use Rattle.store.specs.Live.{held_fault, resize_fault}
 use Rattle.store.specs.Durable.{crash_written, crash_resized, scan_fault, remove_fault, remove_partition_fault}
 use Rattle.store.specs.Whole.{open_fault, sync_answer, synced}
-use Rattle.steps.specs.Log.{Entry, Wrote, Resized, Marked, marks, kept, fixed, whole, recorded, replayed}
+use Rattle.steps.specs.Log.{Entry, Wrote, Resized, Marked, marks, kept, fixed, recorded, replayed}
 use Rattle.steps.specs.State.{Faulty, Bench, Outcome, Lease, Ticket, Rates, WriteRates, ResizeRates, rate_of, write_failure, retention, least, with_words, changed, fresh, Size}
-use Rattle.steps.specs.Faulty.{turned, struck, rolling, done, size_in, is_empty, write_refusal, log_for, failing_write, recording, writing, good_write, write_step, resizing, failing_resize, resize_step, full_fault, open_step, remove_step, remove_partition_step, scan_step, read_step, size_step, look_step, sync_step, ticketed, is_done, tickets_fault, start_sync_step, settle_step, close_step, configure_step, bad_rates, crash_step, restart_step}
+use Rattle.steps.specs.Faulty.{turned, struck, rolling, done, size_in, is_empty, write_refusal, log_for, failing_write, recording, writing, good_write, write_step, resizing, failing_resize, resize_step, full_fault, open_step, remove_step, remove_partition_step, scan_step, read_step, size_step, look_step, sync_step, ticketed, tickets_fault, start_sync_step, settle_step, close_step, configure_step, bad_rates, crash_step, restart_step}
 use Rattle.steps.specs.Register.{lease_of, leased, lifted, registered}
 use Rattle.steps.specs.Calls.{Call, Open, Remove, Scan, Read, Write, Resize, Size as AskSize, Sync, StartSync, Settle, Close, Configure, Look, Crash, Restart, Reply, Opened, Counted, Told, Turn, stretch, shown, within, step, run_from}
-use Rattle.laws.proofs.Draws.{Upto, after-at, upto-first, upto_rest, rolled-upto, picked-upto, selected-upto}
+use Rattle.laws.proofs.Draws.{Upto, upto-first, upto_rest, rolled-upto, picked-upto, selected-upto}
 use Rattle.laws.specs.Promises.{on_source, Agreement}
 use Rattle.laws.proofs.Good.{settling}
 use Rattle.laws.proofs.Syncs.{closing}
@@ -42,10 +45,6 @@ roll-less : (rate n t : ℕ) (w u : Words) → n + roll_taken rate ≤ t → Upt
 roll-less rate n t w u l h = rolled-upto rate (after n w) (after n u) (upto_rest n (roll_taken rate) w u (upto-less (n + roll_taken rate) t w u l h))
 
 module _ {A : Type 0} where
-  -- a state that was drawn for
-  local-done : (a : A) (area : List ℕ) (n : ℕ) (b : Faulty) → Local (λ w. done a area n (with_words b w))
-  local-done a area n b w u h = refl
-
   -- a test that no word decides
   local-test : (t : Bool) (X Y : Words → Outcome Faulty A) → Local X → Local Y → Local (λ w. cond t (X w) (Y w))
   local-test true X Y x y = x
@@ -75,14 +74,10 @@ local-single f rate op b area a end m es ss =
 -- what a selection takes
 prefix-taken-upto : (rate n : ℕ) (w u : Words) → Upto (prefix_taken rate n w) w u → prefix_taken rate n u ≡ prefix_taken rate n w
 prefix-taken-upto rate zero w u h = refl
-prefix-taken-upto rate (suc n) w u h = go (rolled rate w) refl h (λ k. prefix-taken-upto rate n (after (roll_taken rate) w) (after (roll_taken rate) u) k)
-  where
-    go : (b : Bool) → rolled rate w ≡ b → Upto (cond b (roll_taken rate + prefix_taken rate n (after (roll_taken rate) w)) (roll_taken rate)) w u
-        → (Upto (prefix_taken rate n (after (roll_taken rate) w)) (after (roll_taken rate) w) (after (roll_taken rate) u) → prefix_taken rate n (after (roll_taken rate) u) ≡ prefix_taken rate n (after (roll_taken rate) w))
-        → cond (rolled rate u) (roll_taken rate + prefix_taken rate n (after (roll_taken rate) u)) (roll_taken rate) ≡ cond b (roll_taken rate + prefix_taken rate n (after (roll_taken rate) w)) (roll_taken rate)
-    go true e h more =
-        cond-true (rolled rate u) _ _ (rolled-upto rate w u (upto-first (roll_taken rate) _ w u h) ∙ e) ∙ ap (λ k. roll_taken rate + k) (more (upto_rest (roll_taken rate) _ w u h))
-    go false e h more = cond-false (rolled rate u) _ _ (rolled-upto rate w u h ∙ e)
+prefix-taken-upto rate (suc n) w u h =
+    let t = roll_taken rate in
+    let m = prefix_taken rate n (after t w) in
+    grind (arith, h, rolled-upto rate w u, upto-first t m w u, upto_rest t m w u, prefix-taken-upto rate n (after t w) (after t u))
 
 select-taken-upto : (m : PartialWriteMode) (rate n : ℕ) (w u : Words) → Upto (select_taken m rate n w) w u → select_taken m rate n u ≡ select_taken m rate n w
 select-taken-upto Prefix rate n w u h = prefix-taken-upto rate n w u h
@@ -137,7 +132,7 @@ module _ (b : Faulty) where
       plain w = writing (with_words b w) h offset bs false (recording (with_words b w) h offset bs) (Err (Injected Op.Sync)) (roll_taken rate + roll_taken (rate_of b.rates.syncs))
 
       synced-to : Words → Outcome Faulty Done
-      synced-to w = writing (with_words b w) h offset bs true (log_for (with_words b w) h (λ g. fixed b.log g offset (whole bs))) (Ok tt) (roll_taken rate + roll_taken (rate_of b.rates.syncs))
+      synced-to w = writing (with_words b w) h offset bs true (log_for (with_words b w) h (λ g. fixed b.log g offset (map Some bs))) (Ok tt) (roll_taken rate + roll_taken (rate_of b.rates.syncs))
 
       fails-long : (o : Option WriteRates) (w : Words)
           → 0 + roll_taken rate ≤ (when_some o (λ r. failing_write (with_words b w) r h offset bs (roll_taken rate)) (struck Op.Write (with_words b w) [] (roll_taken rate))).taken
@@ -202,12 +197,7 @@ module _ (b : Faulty) where
 
       failing-is : (r : ResizeRates) (w : Words)
           → failing_resize (with_words b w) r h len (roll_taken r.failure) ≡ cond (rolled r.partial (after (roll_taken r.failure) w)) (cond (ltb 1 (high - low)) (part r w) (none r w)) (none r w)
-      failing-is r w = go (rolled r.partial (after (roll_taken r.failure) w)) (ltb 1 (high - low))
-        where
-          go : (s t : Bool) → cond (s && t) (part r w) (none r w) ≡ cond s (cond t (part r w) (none r w)) (none r w)
-          go true true = refl
-          go true false = refl
-          go false t = refl
+      failing-is r w = grind arith
 
       local-failing : (r : ResizeRates) → Local (λ w. failing_resize (with_words b w) r h len (roll_taken r.failure))
       local-failing r = subst Local (fun_ext (λ w. sym (failing-is r w))) (local-both (ltb 1 (high - low)) r)
@@ -238,11 +228,11 @@ module _ (b : Faulty) where
   local-start h =
       local-turned (least (held_fault b.store.handles h) (least (tickets_fault b) (full_fault b.log true))) b [] _
       (local-roll (rate_of b.rates.syncs) 0 (λ w. ticketed (with_words b w) (Err (Injected Op.Sync)) b.store b.log (roll_taken (rate_of b.rates.syncs)))
-      (λ w. ticketed (with_words b w) (sync_answer b.store h) (synced b.store h) (log_for b h (λ g. recorded b.log (Marked g b.issued (is_done (sync_answer b.store h))))) (roll_taken (rate_of b.rates.syncs)))
+      (λ w. ticketed (with_words b w) (sync_answer b.store h) (synced b.store h) (log_for b h (λ g. recorded b.log (Marked g b.issued (is_ok (sync_answer b.store h))))) (roll_taken (rate_of b.rates.syncs)))
       (λ w. omega arith) (λ w. omega arith) (λ w u k. refl) (λ w u k. refl))
 
   local-settle : (t : ℕ) → Local (λ w. settle_step (with_words b w) t)
-  local-settle t = go (found (λ k. eqb k.number t) b.tickets)
+  local-settle t = go (find (λ k. eqb k.number t) b.tickets)
     where
       go : (o : Option Ticket) → Local (λ w. settling (with_words b w) t o)
       go None = λ w u k. refl
@@ -345,8 +335,6 @@ module _ (b : Bench) (area : List ℕ) where
   local-call Restart = local-shown Told (λ a. []) (λ w. restart_step (with_words b.under w)) (λ w u k. refl)
 
 -- Lists of calls.
-after-after : (n m : ℕ) (w : Words) → after m (after n w) ≡ after (n + m) w
-after-after n m w = fun_ext (λ k. after-at m (after n w) k ∙ after-at n w (m + k) ∙ ap w (let e : n + (m + k) ≡ n + m + k = omega arith in e) ∙ sym (after-at (n + m) w k))
 
 -- a turn and the turns after it
 abbrev joined : Outcome Bench Reply → Outcome Bench (List Turn) → Outcome Bench (List Turn)
@@ -371,7 +359,7 @@ run-local (c ∷ cs) b area w u h =
     let tail : run_from (on_source o.next (after t u)) o.area cs ≡ on_bench more (after more.taken (after t u)) =
     rest long ∙ ap (λ (x : Outcome Bench (List Turn)). on_bench x (after x.taken (after t u))) (sym same) in
     ap (λ (x : Outcome Bench Reply). joined x (run_from x.next x.area cs)) first ∙ ap (joined (on_bench o (after t u))) tail
-    ∙ ap (λ (x : Words). on_bench (joined o more) x) (after-after t more.taken u)
+    ∙ ap (λ (x : Words). on_bench (joined o more) x) (after-after more.taken t u)
 
 pub agreement : Agreement
 agreement w u area cs same =

@@ -1,6 +1,6 @@
 -- An open keeps bench and ledger together, in the injection layer and in the register above it.
-use Rattle.std.proofs.Common.{◌≡◌, ℕ, ◌+◌, ◌<◌, Bool, true, false, cond, ◌||◌, List, [], ◌∷◌, ◌++◌, is_some, Some, None, Ok, Err, Option, Result, sym, refl, ap, ◌∙◌, subst, arith}
-use Rattle.std.specs.List.{AllByRecursion}
+use Rattle.std.proofs.Common.{◌≡◌, ℕ, ◌+◌, Bool, true, false, cond, ◌||◌, List, [], ◌∷◌, ◌++◌, is_some, Some, None, Ok, Err, Option, Result, sym, refl, ap, ◌∙◌, subst}
+use Rattle.laws.proofs.Files.{unissued}
 use Rattle.std.proofs.lemmas.Bool.{eq-eqb, ne_eqb}
 use Rattle.fault.specs.declared.Op.TheVariants as Op
 use Rattle.fault.specs.declared.Fault.{Fault}
@@ -8,9 +8,9 @@ use Rattle.fault.specs.declared.Fault.TheVariants.{TooLong, TableFull, BadPartit
 use Rattle.draw.specs.Words.{Words, after, rolled, roll_taken}
 use Rattle.draw.specs.Sources.{tape_words}
 use Rattle.name.specs.Names.{is_partition}
-use Rattle.table.specs.Tables.{found}
-use Rattle.table.proofs.Keys.{found_push_other, found-push-new}
-use Rattle.store.specs.Meaning.{File, Disk}
+use Rattle.store.proofs.Keys.{found_push_other, found-push-new}
+use Rattle.store.specs.declared.file.File.{File}
+use Rattle.store.specs.Meaning.{Disk}
 use Rattle.store.specs.Live.{held_fault, handles_full, handles_with}
 use Rattle.store.specs.Durable.{generated, file_at, file_stands, new_file, opened_file, opened_volume, open_too_long, crowded}
 use Rattle.store.specs.Whole.{open_fault, opened, size_of}
@@ -69,11 +69,6 @@ pub open-early : (m : Disk) (p n header : List ℕ) → Early (open_fault m p n 
 open-early m p n header =
     early-cond (open_too_long p n header) (Some TooLong) _ refl (early-cond (handles_full m.handles m.issued || crowded m.volume p n) (Some TableFull) None refl tt)
 
--- no file has a generation that is not issued
-unissued-none : (k : ℕ) (fs : List File) → AllByRecursion (λ f. f.generation < k) fs → found (generated k) fs ≡ None
-unissued-none k [] a = refl
-unissued-none k (f ∷ fs) a = let l = a.0 in rw (ne_eqb f.generation k (omega arith)) (unissued-none k fs a.1)
-
 -- the outcome of a call on the whole bench is good
 abbrev pub Goes : Bench → (ℕ → Page) → Call → Outcome Bench Reply → Type 0
 Goes b pages c o = Good o.next.under (feed (note_of b.under pages) c o.answer (taken o.taken b.under.words) o.next.under.store.volume.files)
@@ -93,7 +88,7 @@ module _ (b : Faulty) (pages : ℕ → Page) (snd : Sound b.store) (kp : KeptIn 
       go None =
           let g = b.store.generations in
           kept-made (new_file p n header g)
-          (found-push-new (generated g) b.store.volume.files (new_file p n header g) (unissued-none g b.store.volume.files snd.files.generations_issued) (eq-eqb g g refl))
+          (found-push-new (generated g) b.store.volume.files (new_file p n header g) (unissued (λ (f : File). f.generation) g b.store.volume.files snd.files.generations_issued) (eq-eqb g g refl))
           (λ k m. found_push_other (generated k) b.store.volume.files (new_file p n header g) (ne_eqb g k m)) kp
 
   module _ (f : open_fault b.store p n header ≡ None) (v : is_partition p ≡ true) where

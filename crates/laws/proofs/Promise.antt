@@ -3,8 +3,9 @@ use Rattle.std.proofs.Common.{◌≡◌, ℕ, zero, suc, Bool, true, false, cond
 use Rattle.std.specs.List.{ContainsAt, AllByRecursion}
 use Rattle.std.proofs.lemmas.Bool.{eq-eqb, ne_eqb, cond-true, cond-false}
 use Rattle.draw.specs.Words.{Words}
-use Rattle.table.specs.Tables.{found}
-use Rattle.store.specs.Meaning.{File, Volume, with_durable}
+use Rattle.std.specs.List.{find}
+use Rattle.store.specs.declared.file.File.{File}
+use Rattle.store.specs.Meaning.{Volume, with_durable}
 use Rattle.store.specs.Durable.{generated, file_of}
 use Rattle.steps.specs.Log.{replayed}
 use Rattle.steps.specs.State.{Faulty, Bench, fresh}
@@ -86,17 +87,17 @@ module _ {A : Type 0} (key : A → ℕ) where
   apart k (y ∷ ys) x a (zero, l, at) e = a.0 (e ∙ sym (ap key (at y)))
   apart k (y ∷ ys) x a (suc i, l, at) e = apart k ys x a.1 (i, omega arith, at) e
 
-  has-found : (xs : List A) (x : A) → Distinct (map key xs) → ContainsAt xs x → found (keyed key (key x)) xs ≡ Some x
+  has-found : (xs : List A) (x : A) → Distinct (map key xs) → ContainsAt xs x → find (keyed key (key x)) xs ≡ Some x
   has-found [] x d h = absurd (omega (arith, h.1))
   has-found (y ∷ ys) x d (zero, l, at) = cond-true (eqb (key y) (key x)) (Some y) _ (eq-eqb (key y) (key x) (ap key (at y))) ∙ ap Some (at y)
   has-found (y ∷ ys) x d (suc i, l, at) =
       cond-false (eqb (key y) (key x)) (Some y) _ (ne_eqb (key y) (key x) (apart (key y) ys x d.0 (i, omega arith, at))) ∙ has-found ys x d.1 (i, omega arith, at)
 
-found-has : {A : Type 0} (q : A → Bool) (xs : List A) (x : A) → found q xs ≡ Some x → ContainsAt xs x
-found-has q [] x e = absurd (let z : ◌≡◌ {A = ℕ} 0 1 = cc in omega arith)
+found-has : {A : Type 0} (q : A → Bool) (xs : List A) (x : A) → find q xs ≡ Some x → ContainsAt xs x
+found-has q [] x e = cc
 found-has q (y ∷ ys) x e = go (q y) e (found-has q ys x)
   where
-    go : (t : Bool) → cond t (Some y) (found q ys) ≡ Some x → (found q ys ≡ Some x → ContainsAt ys x) → ContainsAt (y ∷ ys) x
+    go : (t : Bool) → cond t (Some y) (find q ys) ≡ Some x → (find q ys ≡ Some x → ContainsAt ys x) → ContainsAt (y ∷ ys) x
     go true e more = let s : y ≡ x = cc in (0, omega arith, λ d. s)
     go false e more = let h = more e in (suc h.0, omega (arith, h.1), h.2)
 
@@ -127,7 +128,7 @@ module _ (w : Words) (area : List ℕ) (cs : List Call) where
           → (f : File) × ContainsAt b.store.volume.files f × Same f e × ((p : ℕ) → Allowed ((ledger w area cs).pages e.generation p) (held e.durable p))
       go None q =
           let n = crash-none e.generation b.log b.store.volume b.words q in
-          absurd (let s : None ≡ Some e = sym n ∙ here in let z : ◌≡◌ {A = ℕ} 0 1 = cc in omega arith)
+          let s : None ≡ Some e = sym n ∙ here in cc
       go (Some f) q =
           let k = kept-promise g.kept b.words e.generation f q in
           let same : with_durable f k.0 ≡ e = let s : Some (with_durable f k.0) ≡ Some e = sym k.1 ∙ here in cc in (

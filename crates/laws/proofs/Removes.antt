@@ -1,7 +1,7 @@
 -- Removals keep bench and ledger together.
-use Rattle.std.proofs.Common.{◌≡◌, ℕ, Bool, true, false, cond, not, ◌||◌, ◌⊎◌, List, [], ◌∷◌, Some, None, Ok, Err, filter, Option, sym, refl, ap, ◌∙◌, inl, inr, arith}
+use Rattle.std.proofs.Common.{◌≡◌, ℕ, Bool, true, false, cond, not, ◌||◌, ◌⊎◌, List, [], ◌∷◌, Some, None, Ok, Err, filter, Option, sym, refl, ap, ◌∙◌, inl, inr}
 use Rattle.std.specs.Option.{option_map}
-use Rattle.std.specs.List.{AllByRecursion}
+use Rattle.std.specs.List.{AllByRecursion, fold}
 use Rattle.std.specs.Str.{bytes_eq}
 use Rattle.std.proofs.ByRecursion.{All-map}
 use Rattle.std.proofs.lemmas.Bool.{cond_both, cases_eq, ne_eqb, both_ways, not_from_true, not_from_false}
@@ -11,11 +11,13 @@ use Rattle.fault.specs.declared.Fault.TheVariants.{TooLong, BadPartition, Partit
 use Rattle.draw.specs.Words.{Words, after, rolled, roll_taken}
 use Rattle.draw.specs.Sources.{tape_words}
 use Rattle.name.specs.Names.{is_partition}
-use Rattle.table.specs.Tables.{found, without}
-use Rattle.table.proofs.Keys.{found-removed, found-kept, found-kept-none}
-use Rattle.store.specs.Meaning.{File, Volume, Done, with_files, with_volume, when_some, when_ok, refused}
+use Rattle.std.specs.List.{find}
+use Rattle.store.specs.Tables.{without}
+use Rattle.store.proofs.Keys.{found-removed, found-kept, found-kept-none}
+use Rattle.store.specs.declared.file.File.{File}
+use Rattle.store.specs.Meaning.{Volume, Done, with_files, with_volume, when_some, when_ok, refused}
 use Rattle.store.specs.Durable.{named, in_partition, generated, file_at, file_of, partition_stands, name_too_long, remove_fault, remove_answer, removed, remove_partition_fault, remove_partition_answer, removed_partition, generation_at, generations_in}
-use Rattle.steps.specs.Log.{Entry, dropped_all}
+use Rattle.steps.specs.Log.{Entry, dropped}
 use Rattle.steps.specs.State.{Faulty, Outcome, rate_of, changed}
 use Rattle.steps.specs.Faulty.{turned, struck, rolling, done, generations_of, remove_step, remove_partition_step}
 use Rattle.steps.specs.Calls.{Call, Remove, Reply, Told}
@@ -37,10 +39,10 @@ remove-found v p n e = go (remove_fault p n) (is_partition p) (partition_stands 
     go : (r : Option Fault) (s t : Bool) (o : Option File) → file_at v p n ≡ o
         → refused {A = Unit {0}} r (cond s (cond t (when_some o (λ f. Ok tt) (Err BlobMissing)) (Err PartitionMissing)) (Err BadPartition)) ≡ Ok tt → (f : File) × (file_at v p n ≡ Some f)
     go r s t (Some f) q e = (f, q)
-    go (Some g) s t None q e = absurd (let z : ◌≡◌ {A = ℕ} 0 1 = cc in omega arith)
-    go None false t None q e = absurd (let z : ◌≡◌ {A = ℕ} 0 1 = cc in omega arith)
-    go None true false None q e = absurd (let z : ◌≡◌ {A = ℕ} 0 1 = cc in omega arith)
-    go None true true None q e = absurd (let z : ◌≡◌ {A = ℕ} 0 1 = cc in omega arith)
+    go (Some g) s t None q e = cc
+    go None false t None q e = cc
+    go None true false None q e = cc
+    go None true true None q e = cc
 
 -- what a removal leaves once its roll said no
 abbrev pub taking_out : Faulty → Done → Volume → List Entry → Outcome Faulty Done
@@ -63,15 +65,15 @@ module _ (b : Faulty) (pages : ℕ → Page) (snd : Sound b.store) (kp : KeptIn 
           → (file_of (with_files v (without (named p n) v.files)) k ≡ None)
           ⊎ ((file_of (with_files v (without (named p n) v.files)) k ≡ file_of v k) × AllByRecursion (λ g. g ≡ k → ⊥) (f.generation ∷ []))
       go (inl s) =
-          inl (ap (λ (j : ℕ). found (generated j) (without (named p n) v.files)) (sym s) ∙ gone-without generation_is (named p n) v.files f e snd.files.generations_distinct)
+          inl (ap (λ (j : ℕ). find (generated j) (without (named p n) v.files)) (sym s) ∙ gone-without generation_is (named p n) v.files f e snd.files.generations_distinct)
       go (inr m) = inr (found-removed (generated k) (named p n) v.files f e (ne_eqb f.generation k m), (m, tt))
 
   removed-kept : (p n : List ℕ)
-      → Kept (removed v p n) b.store.generations (when_ok (remove_answer v p n) (dropped_all b.log (generations_of (generation_at v p n))) b.log) pages
+      → Kept (removed v p n) b.store.generations (when_ok (remove_answer v p n) (fold dropped b.log (generations_of (generation_at v p n))) b.log) pages
   removed-kept p n = go (remove_answer v p n) refl
     where
       go : (r : Done) → remove_answer v p n ≡ r
-          → Kept (when_ok r (with_files v (without (named p n) v.files)) v) b.store.generations (when_ok r (dropped_all b.log (generations_of (generation_at v p n))) b.log) pages
+          → Kept (when_ok r (with_files v (without (named p n) v.files)) v) b.store.generations (when_ok r (fold dropped b.log (generations_of (generation_at v p n))) b.log) pages
       go (Err g) e = kp
       go (Ok u) e =
           let f = remove-found v p n e in
@@ -102,10 +104,10 @@ module _ (b : Faulty) (pages : ℕ → Page) (snd : Sound b.store) (kp : KeptIn 
       go (Some f) e = two f e (in_partition p f) refl
 
   emptied-kept : (p : List ℕ)
-      → Kept (removed_partition v p) b.store.generations (when_ok (remove_partition_answer v p) (dropped_all b.log (generations_in v p)) b.log) pages
+      → Kept (removed_partition v p) b.store.generations (when_ok (remove_partition_answer v p) (fold dropped b.log (generations_in v p)) b.log) pages
   emptied-kept p = go (remove_partition_answer v p)
     where
-      go : (r : Done) → Kept (when_ok r (emptied p) v) b.store.generations (when_ok r (dropped_all b.log (generations_in v p)) b.log) pages
+      go : (r : Done) → Kept (when_ok r (emptied p) v) b.store.generations (when_ok r (fold dropped b.log (generations_in v p)) b.log) pages
       go (Err g) = kp
       go (Ok u) = kept-removed (generations_in v p) (partition-ways p) kp
 
@@ -136,8 +138,8 @@ module _ (b : Faulty) (pages : ℕ → Page) (snd : Sound b.store) (kp : KeptIn 
   remove-good p n =
       removal-good (Remove p (Some n)) (remove_fault p n) (early-cond (name_too_long p || name_too_long n) (Some TooLong) None refl tt) (remove_answer v p n)
       (λ none. rw none (answer-late (is_partition p) (partition_stands v p) (when_some (file_at v p n) (λ f. Ok tt) (Err BlobMissing)) (found-late (file_at v p n))))
-      (removed v p n) (when_ok (remove_answer v p n) (dropped_all b.log (generations_of (generation_at v p n))) b.log)
-      (when_ok (remove_answer v p n) (dropped_all [] (generations_of (generation_at v p n))) [])
+      (removed v p n) (when_ok (remove_answer v p n) (fold dropped b.log (generations_of (generation_at v p n))) b.log)
+      (when_ok (remove_answer v p n) (fold dropped [] (generations_of (generation_at v p n))) [])
       (λ reply u fs. refl) (remove-sound b.store p n snd) (removed-kept p n)
     where
       found-late : (o : Option File) → early (Told (when_some o (λ f. Ok tt) (Err BlobMissing))) ≡ false
@@ -148,6 +150,6 @@ module _ (b : Faulty) (pages : ℕ → Page) (snd : Sound b.store) (kp : KeptIn 
   remove-partition-good p =
       removal-good (Remove p None) (remove_partition_fault p) (early-cond (name_too_long p) (Some TooLong) None refl tt) (remove_partition_answer v p)
       (λ none. rw none (answer-late (is_partition p) (partition_stands v p) (Ok tt) refl))
-      (removed_partition v p) (when_ok (remove_partition_answer v p) (dropped_all b.log (generations_in v p)) b.log)
-      (when_ok (remove_partition_answer v p) (dropped_all [] (generations_in v p)) [])
+      (removed_partition v p) (when_ok (remove_partition_answer v p) (fold dropped b.log (generations_in v p)) b.log)
+      (when_ok (remove_partition_answer v p) (fold dropped [] (generations_in v p)) [])
       (λ reply u fs. refl) (remove-partition-sound b.store p snd) (emptied-kept p)

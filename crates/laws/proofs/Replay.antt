@@ -8,7 +8,8 @@ use Rattle.draw.specs.declared.select.PartialWriteMode.{PartialWriteMode}
 use Rattle.draw.specs.declared.select.PartialWriteMode.TheVariants.{Prefix, Subset}
 use Rattle.content.specs.Bytes.{limit, cut, within}
 use Rattle.content.specs.Patches.{Patch, lay}
-use Rattle.store.specs.Meaning.{File, Volume, Disk, with_durable, with_volume}
+use Rattle.store.specs.declared.file.File.{File}
+use Rattle.store.specs.Meaning.{Volume, Disk, with_durable, with_volume}
 use Rattle.store.specs.Durable.{file_of, crash_written, crash_resized}
 use Rattle.steps.specs.Log.{Entry, Wrote, Resized, Marked, marks, kept, replayed}
 use Rattle.reached.specs.Sound.{Sound}

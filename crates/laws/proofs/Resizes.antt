@@ -7,7 +7,8 @@ use Rattle.fault.specs.declared.Fault.TheVariants.{NoHandle, NoSpace, LogFull, I
 use Rattle.draw.specs.Words.{Words, after, rolled, roll_taken, picked, pick_taken}
 use Rattle.draw.specs.Sources.{tape_words}
 use Rattle.content.specs.Bytes.{limit}
-use Rattle.store.specs.Meaning.{Handle, Done, with_handles, when_some}
+use Rattle.store.specs.declared.handle.Handle.{Handle}
+use Rattle.store.specs.Meaning.{Done, with_handles, when_some}
 use Rattle.store.specs.Live.{handle_at, resize_fault, live_resized}
 use Rattle.store.specs.Whole.{resized}
 use Rattle.steps.specs.Log.{Resized, recorded}
@@ -35,7 +36,7 @@ resize-held : (hs : List Handle) (h len : ℕ) → resize_fault hs h len ≡ Non
 resize-held hs h len e = go (handle_at hs h) refl e
   where
     go : (o : Option Handle) → handle_at hs h ≡ o → when_some o (λ x. cond (leb (len + x.header) limit) None (Some NoSpace)) (Some NoHandle) ≡ None → (x : Handle) × (handle_at hs h ≡ Some x)
-    go None q f = absurd (let z : ◌≡◌ {A = ℕ} 0 1 = cc in omega arith)
+    go None q f = cc
     go (Some x) q f = (x, q)
 
 -- what a resize does once nothing refuses it

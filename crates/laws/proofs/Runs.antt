@@ -1,27 +1,29 @@
 -- The runs of a failing write: each is a SYNC write of the store, and together they leave the bytes of the selection.
-use Rattle.std.proofs.Common.{◌≡◌, ℕ, suc, ◌+◌, ◌≤◌, Bool, true, false, cond, eqb, ◌⊎◌, List, [], ◌∷◌, length, Some, None, Ok, Err, Option, sym, refl, ap, ◌∙◌, inl, inr, add-suc, arith}
-use Rattle.std.specs.Option.{option_map}
+use Rattle.std.proofs.Common.{◌≡◌, ℕ, suc, ◌+◌, ◌≤◌, Bool, true, false, cond, eqb, ◌⊎◌, List, [], ◌∷◌, length, Some, None, Ok, Err, Option, sym, refl, ap, ◌∙◌, inl, inr, add-suc, arith, map}
+use Rattle.std.proofs.lemmas.Bool.Decides.{nat_tests}
+use Rattle.std.specs.Option.{option_map, option_or}
 use Rattle.std.specs.List.{AllByRecursion}
 use Rattle.std.proofs.ByRecursion.{All-weaker}
 use Rattle.std.proofs.lemmas.Bool.{eqb-true, le-leb, le-ltb}
-use Rattle.fault.specs.declared.Fault.{Fault}
 use Rattle.fault.specs.declared.Fault.TheVariants.{BlobMissing}
 use Rattle.content.specs.Bytes.{limit, written}
 use Rattle.content.specs.Patches.{Patch}
-use Rattle.table.specs.Tables.{found}
-use Rattle.table.proofs.Keys.{found-amended}
-use Rattle.table.proofs.Finds.{amended-none}
-use Rattle.store.specs.Meaning.{File, Handle, Volume, Disk, Done, with_durable, with_live, with_volume, when_some}
+use Rattle.std.specs.List.{find}
+use Rattle.store.proofs.Keys.{found-amended}
+use Rattle.store.proofs.Finds.{amended-none}
+use Rattle.store.specs.declared.file.File.{File}
+use Rattle.store.specs.declared.handle.Handle.{Handle}
+use Rattle.store.specs.Meaning.{Volume, Disk, Done, with_durable, with_live, with_volume}
 use Rattle.store.specs.Live.{numbered, handle_at, write_fault, write_limit}
 use Rattle.store.specs.Durable.{generated, file_of, keep_answer, durable_written}
-use Rattle.store.specs.Whole.{write_answer, wrote, written_live, written_durable}
-use Rattle.steps.specs.Log.{whole, idle}
+use Rattle.store.specs.Whole.{write_answer, wrote, written_live}
+use Rattle.steps.specs.Log.{idle}
 use Rattle.steps.specs.State.{Size}
 use Rattle.steps.specs.Faulty.{join_run, runs, Ran, ran_on, ran, grown}
 use Rattle.reached.specs.Sound.{Sound}
 use Rattle.reached.proofs.Steps.{write-sound}
 use Rattle.laws.specs.Pages.{held, reach}
-use Rattle.laws.proofs.Places.{Over, or_else, over-over, written_over, reach-before}
+use Rattle.laws.proofs.Places.{Over, over-over, written_over, reach-before}
 use Rattle.laws.proofs.Files.{changed-same, changed-other}
 
 -- A SYNC write through a held handle.
@@ -31,9 +33,6 @@ module _ (m : Disk) (n o : ℕ) (bs : List ℕ) (x : Handle) (e : handle_at m.ha
 
   pub sync-wrote : wrote m n o bs true ≡ with_volume (written_live m n o bs) (durable_written m.volume x.generation (x.header + o) bs)
   sync-wrote = rw (f, e)
-
-  pub plain-answer : write_answer m n o bs false ≡ Ok tt
-  plain-answer = rw f
 
   pub plain-wrote : wrote m n o bs false ≡ written_live m n o bs
   plain-wrote = rw f
@@ -53,7 +52,7 @@ no-fault hs n o len x e short fits = rw (e, le-ltb write_limit len short, le-leb
 -- what the runs have for a place, the later over the earlier
 abbrev pub reach_all : ℕ → List (ℕ × List ℕ) → ℕ → Option ℕ
 reach_all d [] p = None
-reach_all d (r ∷ rs) p = or_else (reach_all d rs p) (reach (d + r.0) (whole r.1) p)
+reach_all d (r ∷ rs) p = option_or (reach_all d rs p) (reach (d + r.0) (map Some r.1) p)
 
 -- What the runs come to, where the file stands.
 pub record Landed (d : ℕ) (rs : List (ℕ × List ℕ)) (g : ℕ) (f : File) (v : Volume) (end : Ran) : Type 0 where
@@ -101,16 +100,16 @@ lost (r ∷ rs) n m ss x e q a =
     rw (sync-answer m n r.0 r.1 x e free, sync-wrote m n r.0 r.1 x e free, q) in
     rw ok (record {
       fault = inr refl;
-      others = λ k. ap (found (generated k)) (amended-none (generated x.generation) (λ f. with_durable f (written f.durable (x.header + r.0) r.1)) m.volume.files q);
+      others = λ k. ap (find (generated k)) (amended-none (generated x.generation) (λ f. with_durable f (written f.durable (x.header + r.0) r.1)) m.volume.files q);
       sizes = refl;
     })
 
 -- The runs of a patch reach what the patch reaches.
-or-none : (r : Option ℕ) → or_else r None ≡ r
+or-none : (r : Option ℕ) → option_or r None ≡ r
 or-none None = refl
 or-none (Some b) = refl
 
-or-past : (t : Bool) (x : ℕ) (a r : Option ℕ) → (t ≡ true → r ≡ None) → or_else a (cond t (Some x) r) ≡ or_else (or_else a r) (cond t (Some x) None)
+or-past : (t : Bool) (x : ℕ) (a r : Option ℕ) → (t ≡ true → r ≡ None) → option_or a (cond t (Some x) r) ≡ option_or (option_or a r) (cond t (Some x) None)
 or-past true x None r h = rw (h refl)
 or-past true x (Some b) r h = refl
 or-past false x None r h = sym (or-none r)
@@ -121,27 +120,17 @@ module _ (d p : ℕ) where
   behind : (o : ℕ) (os : Patch) → eqb (d + o) p ≡ true → reach (suc (d + o)) os p ≡ None
   behind o os e = let s : d + o ≡ p = eqb-true (d + o) p e in reach-before (suc (d + o)) os p (omega arith)
 
-  join-reach : (o x : ℕ) (rs : List (ℕ × List ℕ)) → reach_all d (join_run o x rs) p ≡ or_else (reach_all d rs p) (cond (eqb (d + o) p) (Some x) None)
+  join-reach : (o x : ℕ) (rs : List (ℕ × List ℕ)) → reach_all d (join_run o x rs) p ≡ option_or (reach_all d rs p) (cond (eqb (d + o) p) (Some x) None)
   join-reach o x [] = refl
-  join-reach o x (r ∷ rs) = go (eqb r.0 (suc o)) refl
-    where
-      go : (t : Bool) → eqb r.0 (suc o) ≡ t
-          → reach_all d (cond t ((o, x ∷ r.1) ∷ rs) ((o, x ∷ []) ∷ (r ∷ rs))) p ≡ or_else (reach_all d (r ∷ rs) p) (cond (eqb (d + o) p) (Some x) None)
-      go true e =
-          let s : d + r.0 ≡ suc (d + o) = ap (λ i. d + i) (eqb-true r.0 (suc o) e) ∙ add-suc d o in
-          rw s (or-past (eqb (d + o) p) x (reach_all d rs p) (reach (suc (d + o)) (whole r.1) p) (behind o (whole r.1)))
-      go false e = refl
+  join-reach o x (r ∷ rs) =
+      let os = map Some r.1 in
+      grind (arith, nat_tests, add-suc d o, or-past (eqb (d + o) p) x (reach_all d rs p) (reach (suc (d + o)) os p), behind o os)
 
   pub runs-reach : (o : ℕ) (os : Patch) → reach_all d (runs o os) p ≡ reach (d + o) os p
   runs-reach o [] = refl
   runs-reach o (None ∷ os) = runs-reach (suc o) os ∙ ap (λ i. reach i os p) (add-suc d o)
   runs-reach o (Some x ∷ os) =
-      join-reach o x (runs (suc o) os) ∙ ap (λ r. or_else r (cond (eqb (d + o) p) (Some x) None)) (runs-reach (suc o) os ∙ ap (λ i. reach i os p) (add-suc d o))
-      ∙ go (eqb (d + o) p) (behind o os)
-    where
-      go : (t : Bool) → (t ≡ true → reach (suc (d + o)) os p ≡ None) → or_else (reach (suc (d + o)) os p) (cond t (Some x) None) ≡ cond t (Some x) (reach (suc (d + o)) os p)
-      go true h = rw (h refl)
-      go false h = or-none (reach (suc (d + o)) os p)
+      grind (arith, nat_tests, add-suc d o, join-reach o x (runs (suc o) os), runs-reach (suc o) os, behind o os, or-none (reach (suc (d + o)) os p))
 
 -- Each run lies within the write.
 abbrev Inside : ℕ → ℕ → ℕ × List ℕ → Type 0
@@ -171,7 +160,7 @@ runs_fit d o os short fits =
 runs_none : (o : ℕ) (os : Patch) → idle os ≡ true → runs o os ≡ []
 runs_none o [] e = refl
 runs_none o (None ∷ os) e = runs_none (suc o) os e
-runs_none o (Some x ∷ os) e = absurd (let z : ◌≡◌ {A = ℕ} 0 1 = cc in omega arith)
+runs_none o (Some x ∷ os) e = cc
 
 -- The runs keep a store sound, and issue nothing.
 pub ran_on-keeps : (P : Disk → Type 0) (a : Done) (m : Disk) (new old : List Size) (more : Disk → List Size → Ran) → P m → (P m → P (more m new).store) → P (ran_on a m new old more).store
@@ -185,12 +174,7 @@ ran-sound (r ∷ rs) n m ss s =
     (write-sound m n r.0 r.1 true s) (λ k. ran-sound rs n (wrote m n r.0 r.1 true) (grown ss n (r.0 + length r.1)) k)
 
 pub wrote-generations : (m : Disk) (n o : ℕ) (bs : List ℕ) (sync : Bool) → (wrote m n o bs sync).generations ≡ m.generations
-wrote-generations m n o bs sync = go (write_fault m.handles n o (length bs)) sync
-  where
-    go : (o' : Option Fault) (y : Bool) → (when_some o' (λ _. m) (cond y (with_volume (written_live m n o bs) (written_durable m n o bs)) (written_live m n o bs))).generations ≡ m.generations
-    go (Some f) y = refl
-    go None true = refl
-    go None false = refl
+wrote-generations m n o bs sync = grind arith
 
 pub ran-generations : (rs : List (ℕ × List ℕ)) (n : ℕ) (m : Disk) (ss : List Size) → (ran rs n m ss).store.generations ≡ m.generations
 ran-generations [] n m ss = refl

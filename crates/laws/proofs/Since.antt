@@ -1,11 +1,12 @@
 -- What a crash would replay of one generation: its changes since its last successful marker, and how the log's own changes
 -- change them.
-use Rattle.std.proofs.Common.{◌≡◌, ℕ, suc, ◌+◌, Bool, true, false, cond, not, ◌&&◌, eqb, leb, ◌⊎◌, List, [], ◌∷◌, ◌++◌, length, sym, refl, ap, ◌∙◌, inl, inr, add-suc}
-use Rattle.std.specs.List.{AllByRecursion}
-use Rattle.std.proofs.lemmas.Bool.{eqb-true, eqb-false, ne_eqb, eq-eqb, cases_eq, cond-true, cond-false, cond_both, false≢true}
+use Rattle.std.proofs.Common.{◌≡◌, ℕ, suc, ◌+◌, Bool, true, false, cond, ◌&&◌, eqb, leb, ◌⊎◌, List, [], ◌∷◌, ◌++◌, length, sym, refl, ap, ◌∙◌, inl, inr, add-suc, arith}
+use Rattle.std.proofs.lemmas.Bool.Decides.{nat_tests}
+use Rattle.std.specs.List.{AllByRecursion, fold}
+use Rattle.std.proofs.lemmas.Bool.{ne_eqb, cases_eq, cond_both, false≢true}
 use Rattle.content.specs.Bytes.{limit}
 use Rattle.content.specs.Patches.{Patch}
-use Rattle.steps.specs.Log.{Entry, Wrote, Resized, Marked, generation_in, recorded, cleared, covers, idle, tightened, resizes, fixed, dropped, dropped_all, retires, is_marker, settled}
+use Rattle.steps.specs.Log.{Entry, Wrote, Resized, Marked, generation_in, recorded, cleared, covers, idle, tightened, resizes, fixed, dropped, retires, is_marker, settled}
 use Rattle.draw.specs.declared.select.PartialWriteMode.TheVariants.{Prefix}
 use Rattle.laws.proofs.Places.{covers-shift}
 use Rattle.laws.proofs.Stands.{Change, Put, Cut, cleared_all, Calm, appended}
@@ -50,27 +51,20 @@ since-recorded-other g d es e n = since-recorded g d es e ∙ noted_other g d (s
 -- Dropping.
 pub since-dropped : (g d : ℕ) (w : List Change) (es : List Entry) → since_from g d w (dropped es g) ≡ w
 since-dropped g d w [] = refl
-since-dropped g d w (e ∷ es) = go (eqb (generation_in e) g) refl (since-dropped g d w es)
-  where
-    go : (t : Bool) → eqb (generation_in e) g ≡ t → since_from g d w (dropped es g) ≡ w → since_from g d w (cond (not t) (e ∷ dropped es g) (dropped es g)) ≡ w
-    go true k more = more
-    go false k more = ap (λ v. since_from g d v (dropped es g)) (noted_other g d w e (eqb-false (generation_in e) g k)) ∙ more
+since-dropped g d w (e ∷ es) = grind (arith, nat_tests, noted_other g d w e, since-dropped g d w es)
 
 pub since-dropped-other : (g d h : ℕ) → (h ≡ g → ⊥) → (w : List Change) (es : List Entry) → since_from g d w (dropped es h) ≡ since_from g d w es
 since-dropped-other g d h n w [] = refl
-since-dropped-other g d h n w (e ∷ es) = go (eqb (generation_in e) h) refl (λ v. since-dropped-other g d h n v es)
-  where
-    go : (t : Bool) → eqb (generation_in e) h ≡ t → ((v : List Change) → since_from g d v (dropped es h) ≡ since_from g d v es)
-        → since_from g d w (cond (not t) (e ∷ dropped es h) (dropped es h)) ≡ since_from g d (noted g d w e) es
-    go true k more = rw (noted_other g d w e (λ q. n (sym (eqb-true (generation_in e) h k) ∙ q))) (more w)
-    go false k more = more (noted g d w e)
+since-dropped-other g d h n w (e ∷ es) =
+    let more = λ (v : List Change). since-dropped-other g d h n v es in
+    grind (arith, nat_tests, n, noted_other g d w e, more w, more (noted g d w e))
 
-pub since-dropped-all : (g d : ℕ) (es : List Entry) (gs : List ℕ) → AllByRecursion (λ h. h ≡ g → ⊥) gs → since g d (dropped_all es gs) ≡ since g d es
+pub since-dropped-all : (g d : ℕ) (es : List Entry) (gs : List ℕ) → AllByRecursion (λ h. h ≡ g → ⊥) gs → since g d (fold dropped es gs) ≡ since g d es
 since-dropped-all g d es [] a = refl
 since-dropped-all g d es (h ∷ gs) a = since-dropped-all g d (dropped es h) gs a.1 ∙ since-dropped-other g d h a.0 [] es
 
 -- what has nothing to replay has nothing after a drop
-pub since-dropped-none : (g d : ℕ) (es : List Entry) (gs : List ℕ) → since g d es ≡ [] → since g d (dropped_all es gs) ≡ []
+pub since-dropped-none : (g d : ℕ) (es : List Entry) (gs : List ℕ) → since g d es ≡ [] → since g d (fold dropped es gs) ≡ []
 since-dropped-none g d es [] e = e
 since-dropped-none g d es (h ∷ gs) e =
     since-dropped-none g d (dropped es h) gs
@@ -82,15 +76,7 @@ mark-resets : (g d t : ℕ) (es : List Entry) → retires t g es ≡ true → (v
 mark-resets g d t [] e v w = absurd (false≢true e)
 mark-resets g d t (Wrote h o os m r ∷ es) e v w = mark-resets g d t es e _ _
 mark-resets g d t (Resized h len ∷ es) e v w = mark-resets g d t es e _ _
-mark-resets g d t (Marked h u s ∷ es) e v w = go (eqb u t) (eqb h g) s e (λ k. mark-resets g d t es k v w)
-  where
-    go : (x y s : Bool) → cond (x && (y && s)) true (retires t g es) ≡ true → (retires t g es ≡ true → since_from g d v es ≡ since_from g d w es)
-        → since_from g d (cond (y && s) [] v) es ≡ since_from g d (cond (y && s) [] w) es
-    go x true true e more = refl
-    go true true false e more = more e
-    go false true false e more = more e
-    go true false s e more = more e
-    go false false s e more = more e
+mark-resets g d t (Marked h u s ∷ es) e v w = grind (arith, mark-resets g d t es)
 
 -- a marker of another ticket is no marker of this one
 retires-past : (t g : ℕ) (e : Entry) (es : List Entry) → is_marker t e ≡ false → retires t g (e ∷ es) ≡ retires t g es
@@ -102,26 +88,11 @@ retires-past t g (Marked h u s) es k = rw k
 noted-marker : (g d t : ℕ) (w : List Change) (e : Entry) (es : List Entry) → is_marker t e ≡ true → retires t g (e ∷ es) ≡ false → (noted g d w e ≡ w) × (retires t g es ≡ false)
 noted-marker g d t w (Wrote h o os m r) es k f = absurd (false≢true k)
 noted-marker g d t w (Resized h len) es k f = absurd (false≢true k)
-noted-marker g d t w (Marked h u s) es k f = go (eqb u t) (eqb h g) s k f
-  where
-    go : (x y s : Bool) → x ≡ true → cond (x && (y && s)) true (retires t g es) ≡ false → (cond (y && s) [] w ≡ w) × (retires t g es ≡ false)
-    go true true true k f = absurd (false≢true (sym f))
-    go true true false k f = (refl, f)
-    go true false s k f = (refl, f)
-    go false y s k f = absurd (false≢true k)
+noted-marker g d t w (Marked h u s) es k f = grind arith
 
 settled-keeps : (g d t : ℕ) (es : List Entry) → retires t g es ≡ false → (w : List Change) → since_from g d w (settled es t) ≡ since_from g d w es
 settled-keeps g d t [] f w = refl
-settled-keeps g d t (e ∷ es) f w = go (is_marker t e) (retires t (generation_in e) es) refl refl (settled-keeps g d t es)
-  where
-    go : (x y : Bool) → is_marker t e ≡ x → retires t (generation_in e) es ≡ y → (retires t g es ≡ false → (v : List Change) → since_from g d v (settled es t) ≡ since_from g d v es)
-        → since_from g d w (cond x es (cond y (settled es t) (e ∷ settled es t))) ≡ since_from g d (noted g d w e) es
-    go true y k r more = rw (noted-marker g d t w e es k f).0
-    go false true k r more =
-        let past : retires t g es ≡ false = sym (retires-past t g e es k) ∙ f in
-        let other : generation_in e ≡ g → ⊥ = λ q. false≢true (sym past ∙ ap (λ (x : ℕ). retires t x es) (sym q) ∙ r) in
-        rw (noted_other g d w e other) (more past w)
-    go false false k r more = more (sym (retires-past t g e es k) ∙ f) (noted g d w e)
+settled-keeps g d t (e ∷ es) f w = grind (arith, noted-marker g d t w e es, retires-past t g e es, noted_other g d w e, settled-keeps g d t es)
 
 settled-resets : (g d t : ℕ) (es : List Entry) → retires t g es ≡ true → (w : List Change) → since_from g d [] (settled es t) ≡ since_from g d w es
 settled-resets g d t [] f w = absurd (false≢true f)
@@ -150,11 +121,7 @@ settled-resets g d t (e ∷ es) f w = go (is_marker t e) (retires t (generation_
         ap (λ v. since_from g d v (settled es t)) (noted_other g d [] e other) ∙ rw (noted_other g d w e other) (more past w)
 
 pub since-settled : (g d t : ℕ) (es : List Entry) → since g d (settled es t) ≡ since g d es
-since-settled g d t es = go (retires t g es) refl
-  where
-    go : (r : Bool) → retires t g es ≡ r → since g d (settled es t) ≡ since g d es
-    go true f = settled-resets g d t es f []
-    go false f = settled-keeps g d t es f []
+since-settled g d t es = grind (arith, settled-resets g d t es, settled-keeps g d t es)
 
 -- Fixing.
 
@@ -173,64 +140,24 @@ cleared-length hit o (x ∷ os) = ap suc (cleared-length hit (suc o) os)
 -- one write that is cleared, and then noted
 noted-cleared : (g d : ℕ) (hit hat : ℕ → Bool) → Alike d hit hat → (w : List Change) (h o : ℕ) (os : Patch) (m : _) (r : ℕ) → h ≡ g
     → cond (idle (cleared hit o os)) (cleared_all hat w) (noted g d (cleared_all hat w) (Wrote h o (cleared hit o os) m r)) ≡ cleared_all hat (noted g d w (Wrote h o os m r))
-noted-cleared g d hit hat ok w h o os m r q =
-    rw (eq-eqb h g q, cleared-length hit o os) (go (leb (d + o + length os) limit) (idle (cleared hit o os)) refl)
-  where
-    go : (fits i : Bool) → idle (cleared hit o os) ≡ i
-        → cond i (cleared_all hat w) (cond fits (Put (d + o) (cleared hit o os) (eqb r 65536) ∷ cleared_all hat w) (cleared_all hat w))
-        ≡ cleared_all hat (cond fits (Put (d + o) os (eqb r 65536) ∷ w) w)
-    go true true e = rw (cleared-shift d hit hat ok o os, e)
-    go true false e = rw (cleared-shift d hit hat ok o os, e)
-    go false true e = refl
-    go false false e = refl
+noted-cleared g d hit hat ok w h o os m r q = grind (arith, nat_tests, cleared-length hit o os, cleared-shift d hit hat ok o os)
 
 pub since-tightened : (g d : ℕ) (hit hat : ℕ → Bool) → Alike d hit hat → (w : List Change) (es : List Entry)
     → since_from g d (cleared_all hat w) (tightened g hit es) ≡ cleared_all hat (since_from g d w es)
 since-tightened g d hit hat ok w [] = refl
-since-tightened g d hit hat ok w (Wrote h o os m r ∷ es) = go (cases_eq h g) (λ v. since-tightened g d hit hat ok v es)
-  where
-    at : (t : Bool) → since_from g d (cleared_all hat w) (cond t (tightened g hit es) (Wrote h o (cleared hit o os) m r ∷ tightened g hit es))
-        ≡ since_from g d (cond t (cleared_all hat w) (noted g d (cleared_all hat w) (Wrote h o (cleared hit o os) m r))) (tightened g hit es)
-    at true = refl
-    at false = refl
-
-    go : (h ≡ g) ⊎ (h ≡ g → ⊥) → ((v : List Change) → since_from g d (cleared_all hat v) (tightened g hit es) ≡ cleared_all hat (since_from g d v es))
-        → since_from g d (cleared_all hat w) (tightened g hit (Wrote h o os m r ∷ es)) ≡ cleared_all hat (since_from g d (noted g d w (Wrote h o os m r)) es)
-    go (inl q) more =
-        ap (since_from g d (cleared_all hat w)) (cond-true (eqb h g) _ _ (eq-eqb h g q)) ∙ at (idle (cleared hit o os))
-        ∙ ap (λ v. since_from g d v (tightened g hit es)) (noted-cleared g d hit hat ok w h o os m r q) ∙ more (noted g d w (Wrote h o os m r))
-    go (inr n) more =
-        ap (since_from g d (cleared_all hat w)) (cond-false (eqb h g) _ _ (ne_eqb h g n))
-        ∙ ap (λ v. since_from g d v (tightened g hit es)) (noted_other g d (cleared_all hat w) (Wrote h o os m r) n)
-        ∙ more w ∙ ap (λ v. cleared_all hat (since_from g d v es)) (sym (noted_other g d w (Wrote h o os m r) n))
-since-tightened g d hit hat ok w (Resized h len ∷ es) =
-    ap (λ v. since_from g d v (tightened g hit es)) (go (eqb h g && leb (d + len) limit)) ∙ since-tightened g d hit hat ok (noted g d w (Resized h len)) es
-  where
-    go : (t : Bool) → cond t (Cut (d + len) ∷ cleared_all hat w) (cleared_all hat w) ≡ cleared_all hat (cond t (Cut (d + len) ∷ w) w)
-    go true = refl
-    go false = refl
-since-tightened g d hit hat ok w (Marked h t s ∷ es) =
-    ap (λ v. since_from g d v (tightened g hit es)) (go (eqb h g && s)) ∙ since-tightened g d hit hat ok (noted g d w (Marked h t s)) es
-  where
-    go : (t : Bool) → cond t [] (cleared_all hat w) ≡ cleared_all hat (cond t [] w)
-    go true = refl
-    go false = refl
+since-tightened g d hit hat ok w (Wrote h o os m r ∷ es) =
+    let e = Wrote h o os m r in
+    let more = λ (v : List Change). since-tightened g d hit hat ok v es in
+    grind (arith, nat_tests, noted-cleared g d hit hat ok w h o os m r, noted_other g d w e, noted_other g d (cleared_all hat w) e, more w, more (noted g d w e))
+since-tightened g d hit hat ok w (Resized h len ∷ es) = grind (arith, since-tightened g d hit hat ok (noted g d w (Resized h len)) es)
+since-tightened g d hit hat ok w (Marked h t s ∷ es) = grind (arith, since-tightened g d hit hat ok (noted g d w (Marked h t s)) es)
 
 pub since-tightened-other : (g d h : ℕ) → (h ≡ g → ⊥) → (hit : ℕ → Bool) (w : List Change) (es : List Entry) → since_from g d w (tightened h hit es) ≡ since_from g d w es
 since-tightened-other g d h n hit w [] = refl
-since-tightened-other g d h n hit w (Wrote k o os m r ∷ es) = go (eqb k h) refl (idle (cleared hit o os)) (λ v. since-tightened-other g d h n hit v es)
-  where
-    go : (t : Bool) → eqb k h ≡ t → (i : Bool) → ((v : List Change) → since_from g d v (tightened h hit es) ≡ since_from g d v es)
-        → since_from g d w (cond t (cond i (tightened h hit es) (Wrote k o (cleared hit o os) m r ∷ tightened h hit es)) (Wrote k o os m r ∷ tightened h hit es))
-        ≡ since_from g d (noted g d w (Wrote k o os m r)) es
-    go true e true more =
-        let other : k ≡ g → ⊥ = λ q. n (sym (eqb-true k h e) ∙ q) in
-        more w ∙ ap (λ v. since_from g d v es) (sym (noted_other g d w (Wrote k o os m r) other))
-    go true e false more =
-        let other : k ≡ g → ⊥ = λ q. n (sym (eqb-true k h e) ∙ q) in
-        ap (λ v. since_from g d v (tightened h hit es)) (noted_other g d w (Wrote k o (cleared hit o os) m r) other)
-        ∙ more w ∙ ap (λ v. since_from g d v es) (sym (noted_other g d w (Wrote k o os m r) other))
-    go false e i more = more (noted g d w (Wrote k o os m r))
+since-tightened-other g d h n hit w (Wrote k o os m r ∷ es) =
+    let e = Wrote k o os m r in
+    let more = λ (v : List Change). since-tightened-other g d h n hit v es in
+    grind (arith, nat_tests, n, noted_other g d w e, noted_other g d w (Wrote k o (cleared hit o os) m r), more w, more (noted g d w e))
 since-tightened-other g d h n hit w (Resized k len ∷ es) = since-tightened-other g d h n hit (noted g d w (Resized k len)) es
 since-tightened-other g d h n hit w (Marked k t s ∷ es) = since-tightened-other g d h n hit (noted g d w (Marked k t s)) es
 
@@ -239,33 +166,17 @@ pub calm-since : (g d : ℕ) (w : List Change) (es : List Entry) → resizes g e
 calm-since g d w [] e h = h
 calm-since g d w (Wrote k o os m r ∷ es) e h =
     calm-since g d (noted g d w (Wrote k o os m r)) es e (cond_both (eqb k g && leb (d + o + length os) limit) (Put (d + o) os (eqb r 65536) ∷ w) w Calm (λ _. h) (λ _. h))
-calm-since g d w (Resized k len ∷ es) e h = go (eqb k g) e (λ f. calm-since g d w es f h)
-  where
-    go : (t : Bool) → cond t true (resizes g es) ≡ false → (resizes g es ≡ false → Calm (since_from g d w es)) → Calm (since_from g d (cond (t && leb (d + len) limit) (Cut (d + len) ∷ w) w) es)
-    go true f more = absurd (false≢true (sym f))
-    go false f more = more f
+calm-since g d w (Resized k len ∷ es) e h =
+    let none : (eqb k g ≡ false) × (resizes g es ≡ false) = grind arith in
+    rw none.0 (calm-since g d w es none.1 h)
 calm-since g d w (Marked k t s ∷ es) e h = calm-since g d (noted g d w (Marked k t s)) es e (cond_both (eqb k g && s) [] w Calm (λ _. tt) (λ _. h))
 
 -- a fixing of a range that has a byte and ends within the limit
 pub since-fixed : (g d : ℕ) (es : List Entry) (o : ℕ) (f : Patch) → idle f ≡ false → leb (d + o + length f) limit ≡ true
     → since g d (fixed es g o f) ≡ appended (resizes g es) (d + o) f (cleared_all (covers (d + o) f) (since g d es))
 since-fixed g d es o f busy fits =
-    ap (since g d) (cond-false (idle f) es _ busy)
-    ∙ since-append g d [] (tightened g (covers o f) es) (cond (resizes g es) (Wrote g o f Prefix 65536 ∷ []) [])
-    ∙ ap (λ v. since_from g d v (cond (resizes g es) (Wrote g o f Prefix 65536 ∷ []) [])) (since-tightened g d (covers o f) (covers (d + o) f) (λ q. covers-shift d o f q) [] es)
-    ∙ go (resizes g es)
-  where
-    go : (t : Bool) → since_from g d (cleared_all (covers (d + o) f) (since g d es)) (cond t (Wrote g o f Prefix 65536 ∷ []) [])
-        ≡ appended t (d + o) f (cleared_all (covers (d + o) f) (since g d es))
-    go true = rw (eq-eqb g g refl, fits)
-    go false = refl
+    grind (arith, nat_tests, since-append g d [] (tightened g (covers o f) es), since-tightened g d (covers o f) (covers (d + o) f) (λ q. covers-shift d o f q) [] es)
 
 pub since-fixed-other : (g d h : ℕ) → (h ≡ g → ⊥) → (es : List Entry) (o : ℕ) (f : Patch) → since g d (fixed es h o f) ≡ since g d es
-since-fixed-other g d h n es o f = go (idle f) (resizes h es)
-  where
-    go : (i t : Bool) → since g d (cond i es (tightened h (covers o f) es ++ cond t (Wrote h o f Prefix 65536 ∷ []) [])) ≡ since g d es
-    go true t = refl
-    go false true =
-        since-append g d [] (tightened h (covers o f) es) (Wrote h o f Prefix 65536 ∷ [])
-        ∙ noted_other g d _ (Wrote h o f Prefix 65536) n ∙ since-tightened-other g d h n (covers o f) [] es
-    go false false = since-append g d [] (tightened h (covers o f) es) [] ∙ since-tightened-other g d h n (covers o f) [] es
+since-fixed-other g d h n es o f =
+    grind (arith, n, since-append g d [] (tightened h (covers o f) es), noted_other g d (since g d es) (Wrote h o f Prefix 65536), since-tightened-other g d h n (covers o f) [] es)

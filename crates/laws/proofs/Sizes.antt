@@ -7,9 +7,12 @@ use Rattle.fault.specs.declared.Fault.{Fault}
 use Rattle.fault.specs.declared.Fault.TheVariants.{NoHandle, BlobMissing}
 use Rattle.content.specs.Bytes.{written, cut}
 use Rattle.content.proofs.Lengths.{length-written, length_cut}
-use Rattle.table.specs.Tables.{found, amended}
-use Rattle.table.proofs.Keys.{found-amended, found-amended-other}
-use Rattle.store.specs.Meaning.{File, Handle, Disk, Volume, Done, with_durable, with_live, with_volume, when_some, when_ok}
+use Rattle.std.specs.List.{find}
+use Rattle.store.specs.Tables.{amended}
+use Rattle.store.proofs.Keys.{found-amended, found-amended-other}
+use Rattle.store.specs.declared.file.File.{File}
+use Rattle.store.specs.declared.handle.Handle.{Handle}
+use Rattle.store.specs.Meaning.{Disk, Volume, Done, with_durable, with_live, with_volume, when_some, when_ok}
 use Rattle.store.specs.Live.{numbered, handle_at, write_fault, resize_fault}
 use Rattle.store.specs.Durable.{file_of, durable_written}
 use Rattle.store.specs.Whole.{write_answer, wrote, written_live, resize_answer, resized}
@@ -26,7 +29,7 @@ use Rattle.laws.proofs.Runs.{sync-answer, sync-wrote}
 abbrev pub SizesOk : List Handle → Volume → List Size → Type 0
 SizesOk hs v ss =
     (n : ℕ) (h : Handle) → handle_at hs n ≡ Some h
-    → (s : Size) × (found (is_size n) ss ≡ Some s) × ((f : File) → file_of v h.generation ≡ Some f → s.size + h.header ≡ length h.live)
+    → (s : Size) × (find (is_size n) ss ≡ Some s) × ((f : File) → file_of v h.generation ≡ Some f → s.size + h.header ≡ length h.live)
 
 pub record SizeInv (m : Disk) (ss : List Size) : Type 0 where
   pub sized : SizesOk m.handles m.volume ss
@@ -35,9 +38,6 @@ pub record SizeInv (m : Disk) (ss : List Size) : Type 0 where
 -- no file comes to stand
 abbrev pub NoneNew : Volume → Volume → Type 0
 NoneNew v v' = (g : ℕ) (f : File) → file_of v' g ≡ Some f → (e : File) × (file_of v g ≡ Some e)
-
-pub none-new-same : (v v' : Volume) → ((k : ℕ) → file_of v' k ≡ file_of v k) → NoneNew v v'
-none-new-same v v' same g f e = (f, sym (same g) ∙ e)
 
 pub none-new-from : (v v' : Volume) → ((g : ℕ) → file_of v g ≡ None → file_of v' g ≡ None) → NoneNew v v'
 none-new-from v v' keeps g f e = go (file_of v g) refl
@@ -68,27 +68,27 @@ module _ (hs : List Handle) (v : Volume) (ss : List Size) (n : ℕ) (x : Handle)
   handle-there k m =
       found-amended-other (numbered k) (numbered n) (λ h. with_live h (live h)) (λ h t. ne_eqb h.number k (λ q. m (sym (eqb-true h.number n t) ∙ q))) (λ h. refl) hs
 
-  size-there : (k : ℕ) → (n ≡ k → ⊥) → found (is_size k) resize ≡ found (is_size k) ss
+  size-there : (k : ℕ) → (n ≡ k → ⊥) → find (is_size k) resize ≡ find (is_size k) ss
   size-there k m =
       found-amended-other (is_size k) (is_size n) (λ s. record { handle = s.handle; size = size s.size }) (λ s t. ne_eqb s.handle k (λ q. m (sym (eqb-true s.handle n t) ∙ q))) (λ s. refl) ss
 
   -- another handle
-  other-sized : (k : ℕ) (h : Handle) → (n ≡ k → ⊥) → handle_at relive k ≡ Some h → (zs : List Size) → found (is_size k) zs ≡ found (is_size k) ss
-      → (s : Size) × (found (is_size k) zs ≡ Some s) × ((f : File) → file_of v h.generation ≡ Some f → s.size + h.header ≡ length h.live)
+  other-sized : (k : ℕ) (h : Handle) → (n ≡ k → ⊥) → handle_at relive k ≡ Some h → (zs : List Size) → find (is_size k) zs ≡ find (is_size k) ss
+      → (s : Size) × (find (is_size k) zs ≡ Some s) × ((f : File) → file_of v h.generation ≡ Some f → s.size + h.header ≡ length h.live)
   other-sized k h m q zs same = let o = ok k h (sym (handle-there k m) ∙ q) in (o.0, same ∙ o.1, o.2)
 
   pub sizes-changed : ((s : ℕ) → s + x.header ≡ length x.live → size s + x.header ≡ length (live x)) → SizesOk relive v resize
   sizes-changed new k h q = go (cases_eq n k)
     where
-      go : (n ≡ k) ⊎ (n ≡ k → ⊥) → (s : Size) × (found (is_size k) resize ≡ Some s) × ((f : File) → file_of v h.generation ≡ Some f → s.size + h.header ≡ length h.live)
+      go : (n ≡ k) ⊎ (n ≡ k → ⊥) → (s : Size) × (find (is_size k) resize ≡ Some s) × ((f : File) → file_of v h.generation ≡ Some f → s.size + h.header ≡ length h.live)
       go (inr m) = other-sized k h m q resize (size-there k m)
       go (inl t) =
           let o = ok n x e in
           let is : with_live x (live x) ≡ h = let y : Some (with_live x (live x)) ≡ Some h = sym handle-here ∙ ap (handle_at relive) t ∙ q in cc in
-          let here : found (is_size n) resize ≡ Some (record { handle = o.0.handle; size = size o.0.size }) =
+          let here : find (is_size n) resize ≡ Some (record { handle = o.0.handle; size = size o.0.size }) =
           found-amended (is_size n) (λ s. record { handle = s.handle; size = size s.size }) (λ s. refl) ss ∙ ap (option_map (λ (s : Size). record { handle = s.handle; size = size s.size })) o.1 in (
             record { handle = o.0.handle; size = size o.0.size },
-            ap (λ (j : ℕ). found (is_size j) resize) (sym t) ∙ here,
+            ap (λ (j : ℕ). find (is_size j) resize) (sym t) ∙ here,
             subst (λ (y : Handle). (f : File) → file_of v y.generation ≡ Some f → size o.0.size + y.header ≡ length y.live) is (λ f z. new o.0.size (o.2 f z)),
           )
 
@@ -96,13 +96,13 @@ module _ (hs : List Handle) (v : Volume) (ss : List Size) (n : ℕ) (x : Handle)
   pub sizes-stale : file_of v x.generation ≡ None → SizesOk relive v ss
   sizes-stale gone k h q = go (cases_eq n k)
     where
-      go : (n ≡ k) ⊎ (n ≡ k → ⊥) → (s : Size) × (found (is_size k) ss ≡ Some s) × ((f : File) → file_of v h.generation ≡ Some f → s.size + h.header ≡ length h.live)
+      go : (n ≡ k) ⊎ (n ≡ k → ⊥) → (s : Size) × (find (is_size k) ss ≡ Some s) × ((f : File) → file_of v h.generation ≡ Some f → s.size + h.header ≡ length h.live)
       go (inr m) = other-sized k h m q ss refl
       go (inl t) =
           let o = ok n x e in
           let is : with_live x (live x) ≡ h = let y : Some (with_live x (live x)) ≡ Some h = sym handle-here ∙ ap (handle_at relive) t ∙ q in cc in (
             o.0,
-            ap (λ (j : ℕ). found (is_size j) ss) (sym t) ∙ o.1,
+            ap (λ (j : ℕ). find (is_size j) ss) (sym t) ∙ o.1,
             subst (λ (y : Handle). (f : File) → file_of v y.generation ≡ Some f → o.0.size + y.header ≡ length y.live) is (λ f z. absurd (none-some gone z)),
           )
 
@@ -151,7 +151,7 @@ resize-sizes m n len ss i = go (resize_fault m.handles n len) refl (handle_at m.
 
     go : (f : Option Fault) → resize_fault m.handles n len ≡ f → (o : Option Handle) → handle_at m.handles n ≡ o → SizeInv (resized m n len) (when_ok (resize_answer m n len) (sized_to ss n len) ss)
     go (Some g) f o e = rw f i
-    go None f None e = absurd (let z : None ≡ Some NoHandle = sym f ∙ (rw e) in let y : ◌≡◌ {A = ℕ} 0 1 = cc in omega arith)
+    go None f None e = let z : None ≡ Some NoHandle = sym f ∙ (rw e) in cc
     go None f (Some x) e = rw f (record {
       sized = sizes-changed m.handles m.volume ss n x e (λ h. cut (h.header + len) h.live) (λ _. len) i.sized (cuts x);
       issued = sized-issued m.issued n (λ _. len) ss i.issued;

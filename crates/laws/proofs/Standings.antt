@@ -1,5 +1,7 @@
 -- Every call, and so every list of calls, leaves standing what its answers say.
 use Rattle.std.proofs.Common.{◌≡◌, ℕ, Bool, true, false, cond, ◌&&◌, eqb, ◌⊎◌, List, [], ◌∷◌, ◌++◌, map, is_some, Some, None, Ok, Err, Option, Result, sym, refl, ap, ◌∙◌, subst, inl, inr, arith}
+use Rattle.std.proofs.Math.Bool.{and-true}
+use Rattle.std.specs.Result.{is_ok}
 use Rattle.std.specs.Str.{bytes_eq}
 use Rattle.std.proofs.lemmas.Bool.{cond-true, cond-false, cases_eq, eq-eqb, ne_eqb, leb-true, and_from, and_right, and_left}
 use Rattle.fault.specs.Numbers.{number}
@@ -8,13 +10,14 @@ use Rattle.fault.specs.declared.Fault.{Fault}
 use Rattle.fault.specs.declared.Fault.TheVariants.{BadPartition, AlreadyOpen, Injected}
 use Rattle.draw.specs.Words.{rolled, roll_taken}
 use Rattle.name.specs.Names.{is_partition}
-use Rattle.table.specs.Tables.{found}
-use Rattle.store.specs.Meaning.{File, Handle, Disk, Done}
+use Rattle.store.specs.declared.file.File.{File}
+use Rattle.store.specs.declared.handle.Handle.{Handle}
+use Rattle.store.specs.Meaning.{Disk, Done}
 use Rattle.store.specs.Live.{handle_at}
 use Rattle.store.specs.Durable.{file_at, file_stands, remove_fault, remove_partition_fault}
 use Rattle.store.specs.Whole.{open_fault}
-use Rattle.steps.specs.State.{Size as Kept, Faulty, Bench, Outcome, Rates, Ticket, rate_of}
-use Rattle.steps.specs.Faulty.{struck, done, is_done, open_step, close_step, remove_step, remove_partition_step, settle_step, configure_step, bad_rates}
+use Rattle.steps.specs.State.{Size as Kept, Faulty, Bench, Outcome, Rates, rate_of}
+use Rattle.steps.specs.Faulty.{struck, done, open_step, close_step, remove_step, remove_partition_step, settle_step, configure_step}
 use Rattle.steps.specs.Register.{leased, lifted}
 use Rattle.steps.specs.Calls.{Call, Open, Remove, Scan, Read, Write, Resize, Size, Sync, StartSync, Settle, Close, Configure, Look, Crash, Restart, Reply, Opened, stretch, step, run_from}
 use Rattle.reached.specs.Sound.{Sound}
@@ -22,7 +25,7 @@ use Rattle.reached.proofs.Runs.{open-sound}
 use Rattle.laws.specs.Ledger.{early_fault}
 use Rattle.laws.specs.Promises.{Watched, watch, watched, begun, ledger, left}
 use Rattle.laws.specs.Standing.{stands_after, held_after, stands_by, held_by, StandingPromise}
-use Rattle.laws.proofs.Good.{Good, Quiet, scan-quiet, read-quiet, size-quiet, look-quiet, settling, configuring, Early}
+use Rattle.laws.proofs.Good.{Good, Quiet, scan-quiet, read-quiet, size-quiet, look-quiet, Early}
 use Rattle.laws.proofs.Opens.{opened_ok, accepted, told, opened-ok, open-refused, open-struck, open-bad, open-ok, open-early}
 use Rattle.laws.proofs.Walks.{after-turned, after-rolling}
 use Rattle.laws.proofs.Promise.{GoodNow, watch-good, all-good, watched-bench}
@@ -56,10 +59,6 @@ module _ (b : Bench) (snd : Sound b.under.store) (q n header : List ℕ) where
   }
 
   module _ (f : open_fault b.under.store q n header ≡ None) (v : is_partition q ≡ true) where
-    and-true : (t : Bool) → (t && true) ≡ t
-    and-true true = refl
-    and-true false = refl
-
     opened-sound : Sound (opened_ok b.under.store q n header)
     opened-sound = rw (opened-ok b.under.store q n header f v) at (open-sound b.under.store q n header snd)
 
@@ -76,12 +75,12 @@ module _ (b : Bench) (snd : Sound b.under.store) (q n header : List ℕ) where
         (close-ok (accepted b.under q n header).next b.under.store.issued g.1.0 g.1.1.handle)
       where
         go : (b.under.store.issued ≡ h) ⊎ (b.under.store.issued ≡ h → ⊥) → (a : Done) → a ≡ Ok tt
-            → cond (eqb b.under.store.issued h && is_done a) false (is_some (handle_at (opened_ok b.under.store q n header).handles h)) ≡ is_some (handle_at b.under.store.handles h)
+            → cond (eqb b.under.store.issued h && is_ok a) false (is_some (handle_at (opened_ok b.under.store q n header).handles h)) ≡ is_some (handle_at b.under.store.handles h)
         go (inl e) a k =
-            cond-true (eqb b.under.store.issued h && is_done a) false _ (and_from (eqb b.under.store.issued h) (is_done a) (eq-eqb b.under.store.issued h e) (ap is_done k))
+            cond-true (eqb b.under.store.issued h && is_ok a) false _ (and_from (eqb b.under.store.issued h) (is_ok a) (eq-eqb b.under.store.issued h e) (ap is_ok k))
             ∙ sym (ap is_some (none-next b.under.store snd q n header h e))
         go (inr d) a k =
-            cond-false (eqb b.under.store.issued h && is_done a) false _ (and_left (eqb b.under.store.issued h) (is_done a) (ne_eqb b.under.store.issued h d))
+            cond-false (eqb b.under.store.issued h && is_ok a) false _ (and_left (eqb b.under.store.issued h) (is_ok a) (ne_eqb b.under.store.issued h d))
             ∙ opened-held b.under.store snd q n header h ∙ cond-false (eqb b.under.store.issued h) true _ (ne_eqb b.under.store.issued h d)
 
     -- leased already, or leased to the new handle
@@ -145,18 +144,10 @@ module _ (b : Bench) (snd : Sound b.under.store) (area : List ℕ) where
   same_store m e = rw e (names_same b.under.store)
 
   settle-store : (t : ℕ) → (settle_step b.under t).next.store ≡ b.under.store
-  settle-store t = go (found (λ k. eqb k.number t) b.under.tickets)
-    where
-      go : (o : Option Ticket) → (settling b.under t o).next.store ≡ b.under.store
-      go None = refl
-      go (Some k) = refl
+  settle-store t = grind arith
 
   configure-store : (r : Rates) → (configure_step b.under r).next.store ≡ b.under.store
-  configure-store r = go (bad_rates r)
-    where
-      go : (t : Bool) → (configuring b.under r t).next.store ≡ b.under.store
-      go true = refl
-      go false = refl
+  configure-store r = grind arith
 
   call-follows : (c : Call) → Follows b c (step b c area)
   call-follows (Open p n header) = let f = open-follows b snd p n header in record { files = f.files; handles = f.handles }
@@ -202,7 +193,7 @@ module _ (b : Bench) (snd : Sound b.under.store) (q n header : List ℕ) where
       × (x.generation ≡ f.generation) × (x.header ≡ f.header) × (x.live ≡ f.durable)
 
   never : (o : Outcome Bench Reply) (g : Fault) → o.answer ≡ Opened (Err g) → Gives o
-  never o g e a k = absurd (let z : ◌≡◌ {A = ℕ} 0 1 = cc in omega arith)
+  never o g e a k = cc
 
   accepted-gives : Gives (told b q n (accepted b.under q n header))
   accepted-gives = go (leased b.leases q n)
@@ -216,7 +207,7 @@ module _ (b : Bench) (snd : Sound b.under.store) (q n header : List ℕ) where
           (record { answer = Err AlreadyOpen; area = o.area; taken = o.taken; next = record { under = (close_step o.next b.under.store.issued).next; leases = b.leases } })
           (lifted o (b.leases ++ (record { partition = q; name = n; handle = b.under.store.issued } ∷ []))) in
           record { answer = Opened k.answer; area = k.area; taken = k.taken; next = k.next })
-      go true a e = absurd (let z : ◌≡◌ {A = ℕ} 0 1 = cc in omega arith)
+      go true a e = cc
       go false a e =
           let g = given b.under.store snd q n header in
           let k = g.1.1 in

@@ -2,6 +2,7 @@
 -- a crash then leaves what the cell allows.
 use Rattle.std.proofs.Common.{◌≡◌, ℕ, suc, Bool, true, false, cond, ◌⊎◌, List, [], ◌∷◌, is_some, Some, None, Option, refl, ap, ◌∙◌, inl, inr, arith}
 use Rattle.std.specs.List.{ContainsAt}
+use Rattle.std.proofs.lemmas.Bool.{cond_both}
 use Rattle.content.specs.Bytes.{cut}
 use Rattle.content.specs.Patches.{Patch, lay}
 use Rattle.steps.specs.Log.{cleared, covers, idle, kept}
@@ -196,21 +197,13 @@ cleared_all hit (Cut n ∷ w) = Cut n ∷ cleared_all hit w
 -- it hits the place: no byte is left there
 bytes-hit : (p : ℕ) (c : Cell) (hit : ℕ → Bool) (w : List Change) → hit p ≡ true → Bytes p c (cleared_all hit w)
 bytes-hit p c hit [] e = tt
-bytes-hit p c hit (Put i os k ∷ w) e = go (idle (cleared hit i os)) (bytes-hit p c hit w e)
-  where
-    go : (t : Bool) → Bytes p c (cleared_all hit w) → Bytes p c (cond t (cleared_all hit w) (Put i (cleared hit i os) k ∷ cleared_all hit w))
-    go true h = h
-    go false h = (rw (reach-cleared hit i os p, e) tt, h)
+bytes-hit p c hit (Put i os k ∷ w) e = cond_both (idle (cleared hit i os)) _ _ (Bytes p c) (λ _. bytes-hit p c hit w e) (λ _. (rw (reach-cleared hit i os p, e) tt, bytes-hit p c hit w e))
 bytes-hit p c hit (Cut n ∷ w) e = bytes-hit p c hit w e
 
 -- it misses the place: what is left there is as it was
 bytes-miss : (p : ℕ) (c : Cell) (hit : ℕ → Bool) (w : List Change) → hit p ≡ false → Bytes p c w → Bytes p c (cleared_all hit w)
 bytes-miss p c hit [] e bs = tt
-bytes-miss p c hit (Put i os k ∷ w) e bs = go (idle (cleared hit i os)) (bytes-miss p c hit w e bs.1)
-  where
-    go : (t : Bool) → Bytes p c (cleared_all hit w) → Bytes p c (cond t (cleared_all hit w) (Put i (cleared hit i os) k ∷ cleared_all hit w))
-    go true h = h
-    go false h = (rw (reach-cleared hit i os p, e) bs.0, h)
+bytes-miss p c hit (Put i os k ∷ w) e bs = cond_both (idle (cleared hit i os)) _ _ (Bytes p c) (λ _. bytes-miss p c hit w e bs.1) (λ _. (rw (reach-cleared hit i os p, e) bs.0, bytes-miss p c hit w e bs.1))
 bytes-miss p c hit (Cut n ∷ w) e bs = bytes-miss p c hit w e bs
 
 safe-miss : (p b : ℕ) (hit : ℕ → Bool) (w : List Change) → hit p ≡ false → Safe p b w → Safe p b (cleared_all hit w)
@@ -223,11 +216,7 @@ safe-miss p b hit (Put i os k ∷ w) e (inl s) = go (idle (cleared hit i os)) re
     go : (t : Bool) → idle (cleared hit i os) ≡ t → Safe p b (cond t (cleared_all hit w) (Put i (cleared hit i os) k ∷ cleared_all hit w))
     go true f = absurd (none-some (idle-reach i (cleared hit i os) p f) at_p)
     go false f = inl (s.0, at_p)
-safe-miss p b hit (Put i os k ∷ w) e (inr s) = go (idle (cleared hit i os)) (safe-miss p b hit w e s)
-  where
-    go : (t : Bool) → Safe p b (cleared_all hit w) → Safe p b (cond t (cleared_all hit w) (Put i (cleared hit i os) k ∷ cleared_all hit w))
-    go true h = h
-    go false h = inr h
+safe-miss p b hit (Put i os k ∷ w) e (inr s) = cond_both (idle (cleared hit i os)) _ _ (Safe p b) (λ _. safe-miss p b hit w e s) (λ _. inr (safe-miss p b hit w e s))
 safe-miss p b hit (Cut n ∷ w) e s = absurd s
 
 covered-miss : (f : Option ℕ) (m : Bool) (p : ℕ) (hit : ℕ → Bool) (w : List Change) → hit p ≡ false → Covered f m p w → Covered f m p (cleared_all hit w)
@@ -243,11 +232,7 @@ Calm (Cut n ∷ w) = ⊥
 
 calm-safe : (p b : ℕ) (hit : ℕ → Bool) (w : List Change) → Calm w → Safe p b (cleared_all hit w)
 calm-safe p b hit [] h = tt
-calm-safe p b hit (Put i os k ∷ w) h = go (idle (cleared hit i os)) (calm-safe p b hit w h)
-  where
-    go : (t : Bool) → Safe p b (cleared_all hit w) → Safe p b (cond t (cleared_all hit w) (Put i (cleared hit i os) k ∷ cleared_all hit w))
-    go true h = h
-    go false h = inr h
+calm-safe p b hit (Put i os k ∷ w) h = cond_both (idle (cleared hit i os)) _ _ (Safe p b) (λ _. calm-safe p b hit w h) (λ _. inr (calm-safe p b hit w h))
 calm-safe p b hit (Cut n ∷ w) h = absurd h
 
 holds-near : (f o n : Option ℕ) → Holds f o → Near o n → Holds f n
@@ -256,11 +241,7 @@ holds-near None o n h (inr e) = rw e.1 refl
 holds-near (Some b) o n h (inr e) = absurd (none-some e.0 h)
 
 pub busy : (i : ℕ) (f : Patch) (p b : ℕ) → reach i f p ≡ Some b → idle f ≡ false
-busy i f p b e = go (idle f) refl
-  where
-    go : (t : Bool) → idle f ≡ t → t ≡ false
-    go true h = absurd (none-some (idle-reach i f p h) e)
-    go false h = refl
+busy i f p b e = grind (arith, idle-reach i f p)
 
 -- the range is appended as a certain write, or there is no resize to be replayed
 abbrev pub appended : Bool → ℕ → Patch → List Change → List Change

@@ -1,13 +1,16 @@
 -- Which files stand and which handles are held after every call.
-use Rattle.std.proofs.Common.{◌≡◌, ℕ, ◌+◌, Bool, true, false, cond, List, [], ◌∷◌, length, is_some, Some, None, Ok, Err, Option, refl, ap, ◌∙◌}
+use Rattle.std.proofs.Common.{◌≡◌, ℕ, ◌+◌, Bool, true, false, cond, List, [], ◌∷◌, length, is_some, Some, None, Ok, Err, Option, refl, ◌∙◌, arith}
 use Rattle.std.proofs.lemmas.Bool.{cond_both}
 use Rattle.fault.specs.declared.Fault.{Fault}
 use Rattle.draw.specs.Words.{Words, after}
 use Rattle.draw.specs.Selections.{selected, select_taken}
 use Rattle.content.specs.Bytes.{written, cut, within}
 use Rattle.content.specs.Patches.{lay}
-use Rattle.table.specs.Tables.{found, amended}
-use Rattle.store.specs.Meaning.{File, Handle, Disk, Volume, Done, with_durable, with_live, with_files, with_handles, with_volume, when_some, when_ok}
+use Rattle.std.specs.List.{find}
+use Rattle.store.specs.Tables.{amended}
+use Rattle.store.specs.declared.file.File.{File}
+use Rattle.store.specs.declared.handle.Handle.{Handle}
+use Rattle.store.specs.Meaning.{Disk, Volume, Done, with_durable, with_live, with_files, with_handles, with_volume, when_some, when_ok}
 use Rattle.store.specs.Live.{numbered, handle_at, write_fault}
 use Rattle.store.specs.Durable.{named, generated, file_stands, durable_written, durable_replaced, crash_written, crash_resized}
 use Rattle.store.specs.Whole.{write_answer, wrote, written_live, written_durable, resize_answer, resized, synced}
@@ -18,21 +21,9 @@ use Rattle.laws.proofs.Runs.{ran_on-keeps}
 use Rattle.laws.proofs.Walks.{write-walk, resize-walk, sync-walk, start-walk}
 
 -- whether a row is found is the same after a change that the test does not see
-some-amended : {A : Type 0} (p q : A → Bool) (f : A → A) → ((x : A) → p (f x) ≡ p x) → (xs : List A) → is_some (found p (amended q f xs)) ≡ is_some (found p xs)
+some-amended : {A : Type 0} (p q : A → Bool) (f : A → A) → ((x : A) → p (f x) ≡ p x) → (xs : List A) → is_some (find p (amended q f xs)) ≡ is_some (find p xs)
 some-amended p q f h [] = refl
-some-amended p q f h (x ∷ xs) = go (q x) (p x) refl (some-amended p q f h xs)
-  where
-    either : (t : Bool) (y : _) (o : Option _) → is_some (cond t (Some y) o) ≡ is_some (cond t (Some x) o)
-    either true y o = refl
-    either false y o = refl
-
-    tail : (t : Bool) (o n : Option _) → is_some o ≡ is_some n → is_some (cond t (Some x) o) ≡ is_some (cond t (Some x) n)
-    tail true o n e = refl
-    tail false o n e = e
-
-    go : (s t : Bool) → p x ≡ t → is_some (found p (amended q f xs)) ≡ is_some (found p xs) → is_some (found p (cond s (f x ∷ xs) (x ∷ amended q f xs))) ≡ is_some (found p (x ∷ xs))
-    go true t e more = ap (λ (b : Bool). is_some (cond b (Some (f x)) (found p xs))) (h x) ∙ either (p x) (f x) (found p xs)
-    go false t e more = tail (p x) (found p (amended q f xs)) (found p xs) more
+some-amended p q f h (x ∷ xs) = grind (arith, h x, some-amended p q f h xs)
 
 -- the same files stand and the same handles are held
 pub record Names (m m' : Disk) : Type 0 where

@@ -1,5 +1,6 @@
 -- Close, sync and start_sync keep bench and ledger together.
 use Rattle.std.proofs.Common.{◌≡◌, ℕ, true, false, cond, List, [], Some, None, Ok, Err, Option, Result, sym, refl, ap, ◌∙◌, arith}
+use Rattle.std.specs.Result.{is_ok}
 use Rattle.std.specs.Option.{option_map}
 use Rattle.std.proofs.lemmas.Bool.{cond_both, eq-eqb}
 use Rattle.fault.specs.declared.Op.TheVariants as Op
@@ -7,15 +8,18 @@ use Rattle.fault.specs.declared.Fault.{Fault}
 use Rattle.fault.specs.declared.Fault.TheVariants.{NoHandle, BlobMissing, TicketsFull, LogFull, Injected}
 use Rattle.draw.specs.Words.{after, rolled, roll_taken}
 use Rattle.draw.specs.Sources.{tape_words}
-use Rattle.table.specs.Tables.{found, without}
-use Rattle.table.proofs.Finds.{amended-none}
-use Rattle.store.specs.Meaning.{File, Handle, Done, with_durable, with_volume, when_some, when_ok, refused}
+use Rattle.std.specs.List.{find}
+use Rattle.store.specs.Tables.{without}
+use Rattle.store.proofs.Finds.{amended-none}
+use Rattle.store.specs.declared.file.File.{File}
+use Rattle.store.specs.declared.handle.Handle.{Handle}
+use Rattle.store.specs.Meaning.{Done, with_durable, with_volume, when_some, when_ok, refused}
 use Rattle.store.specs.Live.{handle_at, held_fault}
 use Rattle.store.specs.Durable.{generated, file_of, keep_answer, durable_replaced}
 use Rattle.store.specs.Whole.{closed_disk, sync_answer, synced}
 use Rattle.steps.specs.Log.{Entry, Marked, recorded, dropped}
 use Rattle.steps.specs.State.{Faulty, Outcome, rate_of, least, changed}
-use Rattle.steps.specs.Faulty.{turned, struck, rolling, done, is_size, close_step, sync_step, tickets_fault, full_fault, ticketed, is_done, log_for, start_sync_step}
+use Rattle.steps.specs.Faulty.{turned, struck, rolling, done, is_size, close_step, sync_step, tickets_fault, full_fault, ticketed, log_for, start_sync_step}
 use Rattle.steps.specs.Calls.{Close, Sync, StartSync, Counted, Told}
 use Rattle.reached.specs.Sound.{Sound}
 use Rattle.reached.proofs.Steps.{close-sound, sync-sound}
@@ -29,17 +33,13 @@ use Rattle.laws.proofs.Draws.{rolled-upto, tape-upto}
 use Rattle.laws.proofs.Good.{note_of, KeptIn, good-as, Goes, goes-as, Early, early-least, early-cond, turned-good, least-none, unchanged, drawn, held-handle}
 
 pub held-early : (hs : List Handle) (h : ℕ) → Early (held_fault hs h)
-held-early hs h = go (handle_at hs h)
-  where
-    go : (o : Option Handle) → Early (when_some o (λ x. None) (Some NoHandle))
-    go None = refl
-    go (Some x) = tt
+held-early hs h = grind arith
 
 pub held_of : (hs : List Handle) (h : ℕ) → held_fault hs h ≡ None → (x : Handle) × (handle_at hs h ≡ Some x)
 held_of hs h e = go (handle_at hs h) refl e
   where
     go : (o : Option Handle) → handle_at hs h ≡ o → when_some o (λ x. None) (Some NoHandle) ≡ None → (x : Handle) × (handle_at hs h ≡ Some x)
-    go None q f = absurd (let z : ◌≡◌ {A = ℕ} 0 1 = cc in omega arith)
+    go None q f = cc
     go (Some x) q f = (x, q)
 
 -- close, by what it tests
@@ -88,7 +88,7 @@ module _ (b : Faulty) (pages : ℕ → Page) (snd : Sound b.store) (kp : KeptIn 
 
     -- the file is missing: no file changes
     missing-same : file_of b.store.volume x.generation ≡ None → (k : ℕ) → file_of (durable_replaced b.store.volume x.generation x.live) k ≡ file_of b.store.volume k
-    missing-same q k = ap (found (generated k)) (amended-none (generated x.generation) (λ f. with_durable f x.live) b.store.volume.files q)
+    missing-same q k = ap (find (generated k)) (amended-none (generated x.generation) (λ f. with_durable f x.live) b.store.volume.files q)
 
     sync-good-held : Goes b pages (Sync h) Told (sync_held b x)
     sync-good-held =
@@ -125,7 +125,7 @@ start_held b x =
     let r = rate_of b.rates.syncs in
     let a = keep_answer b.store.volume x.generation in
     cond (rolled r b.words) (ticketed b (Err (Injected Op.Sync)) b.store b.log (roll_taken r))
-    (ticketed b a (with_volume b.store (durable_replaced b.store.volume x.generation x.live)) (recorded b.log (Marked x.generation b.issued (is_done a))) (roll_taken r))
+    (ticketed b a (with_volume b.store (durable_replaced b.store.volume x.generation x.live)) (recorded b.log (Marked x.generation b.issued (is_ok a))) (roll_taken r))
 
 -- what start_sync does once nothing refuses it
 abbrev starting : Faulty → ℕ → Outcome Faulty (Result ℕ Fault)
@@ -133,7 +133,7 @@ starting b h =
     let r = rate_of b.rates.syncs in
     let a = sync_answer b.store h in
     cond (rolled r b.words) (ticketed b (Err (Injected Op.Sync)) b.store b.log (roll_taken r))
-    (ticketed b a (synced b.store h) (log_for b h (λ g. recorded b.log (Marked g b.issued (is_done a)))) (roll_taken r))
+    (ticketed b a (synced b.store h) (log_for b h (λ g. recorded b.log (Marked g b.issued (is_ok a)))) (roll_taken r))
 
 starting-held : (b : Faulty) (h : ℕ) (x : Handle) → handle_at b.store.handles h ≡ Some x → starting b h ≡ start_held b x
 starting-held b h x e = rw e
@@ -159,7 +159,7 @@ module _ (b : Faulty) (pages : ℕ → Page) (snd : Sound b.store) (kp : KeptIn 
         go : rolled (rate_of b.rates.syncs) (tape_words (taken (roll_taken (rate_of b.rates.syncs)) b.words)) ≡ false
             → (o : Option File) → file_of b.store.volume x.generation ≡ o
             → (let a = when_some o (λ _. Ok tt) (Err BlobMissing) in Goes b pages (StartSync h) Counted
-            (ticketed b a (with_volume b.store (durable_replaced b.store.volume x.generation x.live)) (recorded b.log (Marked x.generation b.issued (is_done a))) (roll_taken (rate_of b.rates.syncs))))
+            (ticketed b a (with_volume b.store (durable_replaced b.store.volume x.generation x.live)) (recorded b.log (Marked x.generation b.issued (is_ok a))) (roll_taken (rate_of b.rates.syncs))))
         go miss None q =
             good-as (record { agree = refl; sound = synced-sound b pages snd kp h x e; kept = kept_same (missing-same b pages snd kp h x e q) (λ k d. unmarked k d) kp })
             (rw (start-held (known (note_of b pages) (tape_words (taken (roll_taken (rate_of b.rates.syncs)) b.words))) h x e, miss, e, q))

@@ -1,5 +1,5 @@
 -- What holds of store and sizes after a call, from what holds after the store's own calls.
-use Rattle.std.proofs.Common.{ℕ, ◌+◌, ◌-◌, min, max, Bool, true, false, ◌&&◌, ltb, List, [], length, Some, None, Ok, Err, Option, Result}
+use Rattle.std.proofs.Common.{ℕ, ◌+◌, ◌-◌, min, max, Bool, true, false, ◌&&◌, ltb, List, [], length, Some, None, Ok, Err, Option, Result, map}
 use Rattle.std.proofs.lemmas.Bool.{cond_both}
 use Rattle.fault.specs.declared.Op.{Op as Operation}
 use Rattle.fault.specs.declared.Op.TheVariants as Op
@@ -9,7 +9,7 @@ use Rattle.draw.specs.Words.{after, rolled, roll_taken, picked, pick_taken}
 use Rattle.store.specs.Meaning.{Disk, when_some, when_ok, refused}
 use Rattle.store.specs.Live.{held_fault, resize_fault}
 use Rattle.store.specs.Whole.{write_answer, wrote, resize_answer, resized, synced}
-use Rattle.steps.specs.Log.{fixed, whole}
+use Rattle.steps.specs.Log.{fixed}
 use Rattle.steps.specs.State.{Faulty, Outcome, Size, WriteRates, ResizeRates, rate_of, write_failure, retention, least}
 use Rattle.steps.specs.Faulty.{turned, struck, rolling, done, size_in, grown, sized_to, is_empty, write_refusal, log_for, ran, failing_write, recording, writing, good_write, write_step, resizing, failing_resize, resize_step, full_fault, sync_step, ticketed, tickets_fault, start_sync_step}
 use Rattle.laws.proofs.Resizes.{going}
@@ -49,7 +49,7 @@ module _ (R : Disk → List Size → Type 0) (b : Faulty) (i : R b.store b.sizes
       goes false = writes h offset bs false
       goes true =
           cond_both (rolled (rate_of b.rates.syncs) (after (roll_taken rate) b.words)) (writing b h offset bs false (recording b h offset bs) (Err (Injected Op.Sync)) (roll_taken rate + roll_taken (rate_of b.rates.syncs)))
-          (writing b h offset bs true (log_for b h (λ g. fixed b.log g offset (whole bs))) (Ok tt) (roll_taken rate + roll_taken (rate_of b.rates.syncs))) After
+          (writing b h offset bs true (log_for b h (λ g. fixed b.log g offset (map Some bs))) (Ok tt) (roll_taken rate + roll_taken (rate_of b.rates.syncs))) After
           (λ _. writes h offset bs false) (λ _. writes h offset bs true)
 
   pub resize-walk : ((n len : ℕ) → R (resized b.store n len) (when_ok (resize_answer b.store n len) (sized_to b.sizes n len) b.sizes)) → (h len : ℕ) → After (resize_step b h len)

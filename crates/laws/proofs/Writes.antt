@@ -1,5 +1,6 @@
 -- A write keeps bench and ledger together.
-use Rattle.std.proofs.Common.{◌≡◌, ℕ, suc, ◌+◌, ◌^◌, ◌≤◌, Bool, true, false, cond, not, ◌&&◌, eqb, ltb, leb, ◌⊎◌, List, [], ◌∷◌, length, Some, None, Ok, Err, Option, sym, refl, ap, ◌∙◌, inl, inr, arith}
+use Rattle.std.proofs.Common.{◌≡◌, ℕ, ◌+◌, ◌^◌, ◌≤◌, Bool, true, false, cond, not, ◌&&◌, eqb, ltb, leb, ◌⊎◌, List, [], ◌∷◌, length, Some, None, Ok, Err, Option, sym, refl, ap, ◌∙◌, inl, inr, arith, map}
+use Rattle.std.proofs.lemmas.List.{length-map}
 use mathlib.Core.Path.{fun_ext}
 use Rattle.std.specs.Option.{option_map}
 use Rattle.std.proofs.lemmas.Bool.{cond_both, le-leb, false≢true}
@@ -12,15 +13,17 @@ use Rattle.draw.specs.Selections.{selected, select_taken}
 use Rattle.draw.specs.Sources.{tape_words}
 use Rattle.content.specs.Bytes.{limit, written}
 use Rattle.content.specs.Patches.{Patch, patch}
-use Rattle.content.proofs.Lays.{length-patch}
-use Rattle.table.specs.Tables.{found}
-use Rattle.table.proofs.Finds.{amended-none}
-use Rattle.store.specs.Meaning.{File, Handle, Disk, Done, with_durable, with_volume, when_some, refused}
+use Rattle.content.proofs.Lays.{length_patch}
+use Rattle.std.specs.List.{find}
+use Rattle.store.proofs.Finds.{amended-none}
+use Rattle.store.specs.declared.file.File.{File}
+use Rattle.store.specs.declared.handle.Handle.{Handle}
+use Rattle.store.specs.Meaning.{Disk, Done, with_durable, with_volume, when_some, refused}
 use Rattle.store.specs.Live.{handle_at, held_fault, write_fault, write_limit}
 use Rattle.store.specs.Durable.{generated, file_of, durable_written}
 use Rattle.store.specs.Whole.{written_live}
 use Rattle.store.proofs.Faults.{write-fits}
-use Rattle.steps.specs.Log.{Entry, Wrote, recorded, whole, idle, fixed}
+use Rattle.steps.specs.Log.{Entry, Wrote, recorded, idle, fixed}
 use Rattle.steps.specs.State.{Faulty, Outcome, WriteRates, rate_of, write_failure, retention, least, changed}
 use Rattle.steps.specs.Faulty.{struck, done, grown, is_empty, overflow, full_fault, write_refusal, log_for, runs, Ran, ran, failing_write, recording, writing, good_write, write_step}
 use Rattle.steps.specs.Calls.{Write, Told}
@@ -36,10 +39,6 @@ use Rattle.laws.proofs.Draws.{upto-first, upto_rest, rolled-upto, selected-upto,
 use Rattle.laws.proofs.Runs.{sync-wrote, plain-wrote, runs-landed, runs-lost, runs-idle, runs-reach, ran-sound, ran-generations}
 use Rattle.laws.proofs.Good.{note_of, KeptIn, Good, good-as, Goes, goes-as, cond_same, Early, early-least, early-cond, least-none, turned-good, unchanged, drawn, held-handle}
 use Rattle.laws.proofs.Syncs.{held-early}
-
-length_whole : (bs : List ℕ) → length (whole bs) ≡ length bs
-length_whole [] = refl
-length_whole (b ∷ bs) = ap suc (length_whole bs)
 
 -- a page without a change
 turned_none : (g : ℕ) (a : Page → Page) (pages : ℕ → Page) → ((page : Page) → a page ≡ page) → turned_page g a pages ≡ pages
@@ -72,7 +71,7 @@ writable hs h offset len f = go (handle_at hs h) refl f
 
     go : (o : Option Handle) → handle_at hs h ≡ o
         → when_some o (λ x. cond (ltb write_limit len) (Some TooLong) (cond (leb (offset + len + x.header) limit) None (Some NoSpace))) (Some NoHandle) ≡ None → Writable hs h offset len
-    go None q e = absurd (let z : ◌≡◌ {A = ℕ} 0 1 = cc in omega arith)
+    go None q e = cc
     go (Some x) q e = record { handle = x; found = q; short = short (offset + len + x.header) e; fits = write-fits hs h offset len x q f }
 
 -- what a write does once nothing refuses it
@@ -131,17 +130,17 @@ module _ (b : Faulty) (pages : ℕ → Page) (snd : Sound b.store) (kp : KeptIn 
   recording-kept = go (retention b.rates)
     where
       put : (w : WriteRates) (cs : List ℕ) → length cs ≡ length bs
-          → Kept b.store.volume b.store.generations (cond (is_empty cs) b.log (recorded b.log (Wrote x.generation offset (whole cs) w.mode w.retention)))
-          (turned_page x.generation (put_range (x.header + offset) (whole cs)) pages)
+          → Kept b.store.volume b.store.generations (cond (is_empty cs) b.log (recorded b.log (Wrote x.generation offset (map Some cs) w.mode w.retention)))
+          (turned_page x.generation (put_range (x.header + offset) (map Some cs)) pages)
       put w [] s = rw (turned_none x.generation (put_range (x.header + offset) []) pages (λ page. refl)) kp
       put w (c ∷ cs) s =
           let held = held-handle b pages snd kp h x e in
-          kept_put x.generation x.header held.issued kp held.header offset (whole (c ∷ cs)) w.mode w.retention (ends (whole (c ∷ cs)) (length_whole (c ∷ cs) ∙ s))
+          kept_put x.generation x.header held.issued kp held.header offset (map Some (c ∷ cs)) w.mode w.retention (ends (map Some (c ∷ cs)) (length-map (c ∷ cs) Some ∙ s))
 
       go : (o : Option WriteRates)
           → Kept b.store.volume b.store.generations
-          (when_some o (λ w. cond (is_empty bs) b.log (log_for b h (λ g. recorded b.log (Wrote g offset (whole bs) w.mode w.retention)))) b.log)
-          (when_some o (λ _. of_handle N h (λ y. put_range (y.header + offset) (whole bs))) pages)
+          (when_some o (λ w. cond (is_empty bs) b.log (log_for b h (λ g. recorded b.log (Wrote g offset (map Some bs) w.mode w.retention)))) b.log)
+          (when_some o (λ _. of_handle N h (λ y. put_range (y.header + offset) (map Some bs))) pages)
       go None = kp
       go (Some w) = rw e (put w bs refl)
 
@@ -150,8 +149,8 @@ module _ (b : Faulty) (pages : ℕ → Page) (snd : Sound b.store) (kp : KeptIn 
 
   -- a SYNC write to a standing file fixes its bytes
   fixed-good : is_empty bs ≡ false → (n : ℕ)
-      → (let o = synchronously b x h offset bs (fixed b.log x.generation offset (whole bs)) (Ok tt) n in
-      Good o.next (note_of o.next (turned_page x.generation (fix_range (x.header + offset) (whole bs)) pages)))
+      → (let o = synchronously b x h offset bs (fixed b.log x.generation offset (map Some bs)) (Ok tt) n in
+      Good o.next (note_of o.next (turned_page x.generation (fix_range (x.header + offset) (map Some bs)) pages)))
   fixed-good full n =
       let held = held-handle b pages snd kp h x e in
       let v = b.store.volume in
@@ -159,14 +158,14 @@ module _ (b : Faulty) (pages : ℕ → Page) (snd : Sound b.store) (kp : KeptIn 
       record {
         agree = refl;
         sound = synced-sound;
-        kept = kept-fix x.generation x.header held.issued kp held.header (durable_written v x.generation (x.header + offset) bs) offset (whole bs) (ends (whole bs) (length_whole bs))
+        kept = kept-fix x.generation x.header held.issued kp held.header (durable_written v x.generation (x.header + offset) bs) offset (map Some bs) (ends (map Some bs) (length-map bs Some))
             (λ k m. changed-other v x.generation k a m)
             (λ z r. (a z, changed-same v x.generation a ∙ ap (option_map (λ (w : File). with_durable w (a w))) r, λ p. written_over z.durable (x.header + offset) bs p))
             (λ r. changed-same v x.generation a ∙ ap (option_map (λ (w : File). with_durable w (a w))) r)
             (λ i. absurd (busy bs full i));
       }
     where
-      busy : (cs : List ℕ) → is_empty cs ≡ false → idle (whole cs) ≡ true → ⊥
+      busy : (cs : List ℕ) → is_empty cs ≡ false → idle (map Some cs) ≡ true → ⊥
       busy [] a i = false≢true (sym a)
       busy (c ∷ cs) a i = false≢true i
 
@@ -175,7 +174,7 @@ module _ (b : Faulty) (pages : ℕ → Page) (snd : Sound b.store) (kp : KeptIn 
   missing-good q n = record {
     agree = refl;
     sound = synced-sound;
-    kept = kept_same (λ k. ap (found (generated k)) (amended-none (generated x.generation) (λ z. with_durable z (written z.durable (x.header + offset) bs)) b.store.volume.files q)) (λ k d. refl) kp;
+    kept = kept_same (λ k. ap (find (generated k)) (amended-none (generated x.generation) (λ z. with_durable z (written z.durable (x.header + offset) bs)) b.store.volume.files q)) (λ k d. refl) kp;
   }
 
   -- what the ledger makes of a write, given the words u that it is fed
@@ -252,7 +251,7 @@ module _ (b : Faulty) (pages : ℕ → Page) (snd : Sound b.store) (kp : KeptIn 
       fixed-pages = rw (q, e, same_chosen)
 
       long : length (chosen b.words) ≡ length bs
-      long = length-patch bs (selected w.mode w.retention (length bs) (after first b.words))
+      long = length_patch bs (selected w.mode w.retention (length bs) (after first b.words))
 
       short : length (chosen b.words) ≤ write_limit
       short = omega (arith, long, (writable b.store.handles h offset (length bs) f).short)
@@ -336,7 +335,7 @@ module _ (b : Faulty) (pages : ℕ → Page) (snd : Sound b.store) (kp : KeptIn 
       goes-sync : (t : Bool) → rolled syncs (after first b.words) ≡ t
           → write_step (known N fed) h offset bs true
           ≡ cond t (writing (known N fed) h offset bs false (recording (known N fed) h offset bs) (Err (Injected Op.Sync)) (first + second))
-          (writing (known N fed) h offset bs true (log_for (known N fed) h (λ g. fixed [] g offset (whole bs))) (Ok tt) (first + second))
+          (writing (known N fed) h offset bs true (log_for (known N fed) h (λ g. fixed [] g offset (map Some bs))) (Ok tt) (first + second))
       goes-sync t k =
           let same = tape-upto (first + second) b.words in
           let one : rolled rate fed ≡ false = rolled-upto rate b.words fed (upto-first first second b.words fed same) ∙ miss in
@@ -355,29 +354,29 @@ module _ (b : Faulty) (pages : ℕ → Page) (snd : Sound b.store) (kp : KeptIn 
 
       -- no: its bytes are fixed, or the file is missing
       sync-goes : rolled syncs (after first b.words) ≡ false
-          → Goes b pages (Write h offset bs true) Told (writing b h offset bs true (log_for b h (λ g. fixed b.log g offset (whole bs))) (Ok tt) (first + second))
+          → Goes b pages (Write h offset bs true) Told (writing b h offset bs true (log_for b h (λ g. fixed b.log g offset (map Some bs))) (Ok tt) (first + second))
       sync-goes quiet = go (file_of b.store.volume x.generation) refl
         where
           go : (o : Option File) → file_of b.store.volume x.generation ≡ o
-              → Goes b pages (Write h offset bs true) Told (writing b h offset bs true (log_for b h (λ g. fixed b.log g offset (whole bs))) (Ok tt) (first + second))
+              → Goes b pages (Write h offset bs true) Told (writing b h offset bs true (log_for b h (λ g. fixed b.log g offset (map Some bs))) (Ok tt) (first + second))
           go None k =
-              goes-as b pages (Write h offset bs true) Told (writing-missing b h offset bs x e f (log_for b h (λ g. fixed b.log g offset (whole bs))) (Ok tt) (first + second) k)
+              goes-as b pages (Write h offset bs true) Told (writing-missing b h offset bs x e f (log_for b h (λ g. fixed b.log g offset (map Some bs))) (Ok tt) (first + second) k)
               (good-as (missing-good k (first + second))
               (write-ledger true fed (Err BlobMissing) _ pages refl
-              (goes-sync false quiet ∙ writing-missing (known N fed) h offset bs x e f (log_for (known N fed) h (λ g. fixed [] g offset (whole bs))) (Ok tt) (first + second) k) refl))
+              (goes-sync false quiet ∙ writing-missing (known N fed) h offset bs x e f (log_for (known N fed) h (λ g. fixed [] g offset (map Some bs))) (Ok tt) (first + second) k) refl))
           go (Some y) k =
-              let held : log_for b h (λ g. fixed b.log g offset (whole bs)) ≡ fixed b.log x.generation offset (whole bs) = rw e in
+              let held : log_for b h (λ g. fixed b.log g offset (map Some bs)) ≡ fixed b.log x.generation offset (map Some bs) = rw e in
               goes-as b pages (Write h offset bs true) Told
-              (writing-sync b h offset bs x e f (log_for b h (λ g. fixed b.log g offset (whole bs))) (Ok tt) (first + second) y k
+              (writing-sync b h offset bs x e f (log_for b h (λ g. fixed b.log g offset (map Some bs))) (Ok tt) (first + second) y k
               ∙ ap (λ (es : List Entry). synchronously b x h offset bs es (Ok tt) (first + second)) held)
               (good-as (fixed-good full (first + second))
               (write-ledger true fed (Ok tt) _ _ refl
-              (goes-sync false quiet ∙ writing-sync (known N fed) h offset bs x e f (log_for (known N fed) h (λ g. fixed [] g offset (whole bs))) (Ok tt) (first + second) y k) (rw e)))
+              (goes-sync false quiet ∙ writing-sync (known N fed) h offset bs x e f (log_for (known N fed) h (λ g. fixed [] g offset (map Some bs))) (Ok tt) (first + second) y k) (rw e)))
 
       sync-late : Goes b pages (Write h offset bs true) Told (good_write b h offset bs true first)
       sync-late =
           cond_both (rolled syncs (after first b.words)) (writing b h offset bs false (recording b h offset bs) (Err (Injected Op.Sync)) (first + second))
-          (writing b h offset bs true (log_for b h (λ g. fixed b.log g offset (whole bs))) (Ok tt) (first + second)) (Goes b pages (Write h offset bs true) Told) sync-fails sync-goes
+          (writing b h offset bs true (log_for b h (λ g. fixed b.log g offset (map Some bs))) (Ok tt) (first + second)) (Goes b pages (Write h offset bs true) Told) sync-fails sync-goes
 
 module _ (b : Faulty) (pages : ℕ → Page) (snd : Sound b.store) (kp : KeptIn b pages) (h offset : ℕ) where
   -- a write that nothing refuses: its failure roll first

@@ -1,6 +1,7 @@
 -- The ledger: an observer that is fed the calls, their answers, the words that they took and, after a crash, the store's
 -- files. It keeps rates, sizes and a store of its own, and a page for each generation; it never sees the log.
-use Rattle.std.specs.Prelude.{ℕ, ◌+◌, ◌-◌, min, max, Bool, true, false, cond, ◌&&◌, List, [], length, Some, None, Ok, Err, Option, Result, ◌==◌, nat_eq, nat_le, nat_lt}
+use Rattle.std.specs.Prelude.{ℕ, ◌+◌, ◌-◌, min, max, Bool, true, false, cond, ◌&&◌, List, [], length, Some, None, Ok, Err, Option, Result, ◌==◌, nat_eq, nat_le, nat_lt, map}
+use Rattle.std.specs.Result.{is_ok}
 use Rattle.fault.specs.Numbers.{number, operation, detail}
 use Rattle.fault.specs.declared.Op.{Op}
 use Rattle.fault.specs.declared.Op.TheVariants as op
@@ -9,13 +10,14 @@ use Rattle.draw.specs.Words.{Words, after, rolled, roll_taken}
 use Rattle.draw.specs.Sources.{tape_words}
 use Rattle.draw.specs.Selections.{selected}
 use Rattle.content.specs.Patches.{Patch, patch}
-use Rattle.store.specs.Meaning.{File, Handle, Disk, empty_disk, with_files, with_volume, when_some}
+use Rattle.store.specs.declared.file.File.{File}
+use Rattle.store.specs.declared.handle.Handle.{Handle}
+use Rattle.store.specs.Meaning.{Disk, empty_disk, with_files, with_volume, when_some}
 use Rattle.store.specs.Live.{handle_at}
 use Rattle.store.specs.Durable.{file_of, file_stands}
 use Rattle.store.specs.Whole.{sync_answer}
-use Rattle.steps.specs.Log.{whole}
 use Rattle.steps.specs.State.{Rates, unset, rate_of, write_failure, retention, Size, Faulty, Outcome}
-use Rattle.steps.specs.Faulty.{size_in, open_step, remove_step, remove_partition_step, write_step, resize_step, sync_step, start_sync_step, close_step, configure_step, restart_step, is_done}
+use Rattle.steps.specs.Faulty.{size_in, open_step, remove_step, remove_partition_step, write_step, resize_step, sync_step, start_sync_step, close_step, configure_step, restart_step}
 use Rattle.steps.specs.Calls.{Call, Open, Remove, Scan, Read, Write, Resize, Size as AskSize, Sync, StartSync, Settle, Close, Configure, Look, Crash, Restart, Reply, Opened, Counted, Told}
 use Rattle.laws.specs.Pages.{Page, fix_whole, fix_range, put_range, mark_all}
 
@@ -68,7 +70,7 @@ of_handle l h f = when_some (handle_at l.store.handles h) (λ x. turned x.genera
 
 -- a write that went no further than the live bytes puts its bytes if retention is set, and nothing if not
 abbrev pub puts : Ledger → ℕ → ℕ → List ℕ → ℕ → Page
-puts l h offset bs = when_some (retention l.rates) (λ _. of_handle l h (λ x. put_range (x.header + offset) (whole bs))) l.pages
+puts l h offset bs = when_some (retention l.rates) (λ _. of_handle l h (λ x. put_range (x.header + offset) (map Some bs))) l.pages
 
 -- bytes are fixed from an offset on, in the page of a handle's file
 abbrev pub fixes : Ledger → ℕ → ℕ → Patch → ℕ → Page
@@ -84,7 +86,7 @@ survived l bs w =
 abbrev pub write_pages : Ledger → ℕ → ℕ → List ℕ → Bool → Reply → Words → ℕ → Page
 write_pages l h offset bs sync (Opened r) w = l.pages
 write_pages l h offset bs sync (Counted r) w = l.pages
-write_pages l h offset bs sync (Told (Ok a)) w = cond sync (fixes l h offset (whole bs)) (puts l h offset bs)
+write_pages l h offset bs sync (Told (Ok a)) w = cond sync (fixes l h offset (map Some bs)) (puts l h offset bs)
 write_pages l h offset bs sync (Told (Err f)) w =
     cond (injected op.Write f) (fixes l h offset (survived l bs w)) (cond (injected op.Sync f) (puts l h offset bs) l.pages)
 
@@ -104,7 +106,7 @@ is_accepted (Opened (Ok a)) = true
 is_accepted (Opened (Err f)) = false
 is_accepted (Counted (Ok a)) = true
 is_accepted (Counted (Err f)) = false
-is_accepted (Told r) = is_done r
+is_accepted (Told r) = is_ok r
 
 -- a file's making fixes its header
 abbrev pub open_pages : Ledger → List ℕ → List ℕ → List ℕ → ℕ → Page
@@ -142,7 +144,7 @@ fed l (AskSize h) r w fs = l
 fed l (Sync h) r w fs = followed (sync_step (known l w) h) (cond (is_accepted r) (of_handle l h (λ x _. fix_whole x.live)) l.pages)
 fed l (StartSync h) r w fs =
     followed (start_sync_step (known l w) h)
-    (cond (rolled (rate_of l.rates.syncs) w) l.pages (cond (is_done (sync_answer l.store h)) (of_handle l h (λ x _. fix_whole x.live)) l.pages))
+    (cond (rolled (rate_of l.rates.syncs) w) l.pages (cond (is_ok (sync_answer l.store h)) (of_handle l h (λ x _. fix_whole x.live)) l.pages))
 fed l (Settle t) r w fs = l
 fed l (Close h) r w fs = followed (close_step (known l w) h) l.pages
 fed l (Configure rates) r w fs = followed (configure_step (known l w) rates) l.pages

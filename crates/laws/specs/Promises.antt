@@ -4,7 +4,8 @@ use Rattle.std.specs.List.{ContainsAt}
 use Rattle.fault.specs.declared.Op.TheVariants as op
 use Rattle.fault.specs.declared.Fault.TheVariants.{Injected}
 use Rattle.draw.specs.Words.{Words, rest, after}
-use Rattle.store.specs.Meaning.{File, Handle}
+use Rattle.store.specs.declared.file.File.{File}
+use Rattle.store.specs.declared.handle.Handle.{Handle}
 use Rattle.store.specs.Live.{handle_at, read_bytes}
 use Rattle.store.specs.Durable.{file_of}
 use Rattle.steps.specs.State.{Bench, Outcome, fresh, with_words}

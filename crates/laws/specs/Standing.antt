@@ -3,7 +3,8 @@ use Rattle.std.specs.Prelude.{◌≡◌, ℕ, Bool, true, false, cond, ◌&&◌,
 use Rattle.std.specs.Str.{bytes_eq}
 use Rattle.fault.specs.Numbers.{number}
 use Rattle.draw.specs.Words.{Words}
-use Rattle.store.specs.Meaning.{File, Handle}
+use Rattle.store.specs.declared.file.File.{File}
+use Rattle.store.specs.declared.handle.Handle.{Handle}
 use Rattle.store.specs.Live.{handle_at}
 use Rattle.store.specs.Durable.{file_at, file_stands}
 use Rattle.steps.specs.Calls.{Call, Open, Remove, Scan, Read, Write, Resize, Size, Sync, StartSync, Settle, Close, Configure, Look, Crash, Restart, Reply, Opened, Counted, Told, step, run}

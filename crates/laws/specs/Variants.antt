@@ -5,7 +5,7 @@ use Rattle.draw.specs.Sources.{tape_words}
 use Rattle.draw.specs.declared.select.PartialWriteMode.{PartialWriteMode}
 use Rattle.draw.specs.declared.select.PartialWriteMode.TheVariants.{Prefix}
 use Rattle.content.specs.Patches.{Patch}
-use Rattle.steps.specs.Log.{Entry, Wrote, Resized, Marked, whole, covers, tightened, resizes, replayed}
+use Rattle.steps.specs.Log.{Entry, Wrote, Resized, Marked, covers, tightened, resizes, replayed}
 use Rattle.steps.specs.State.{Faulty}
 use Rattle.steps.specs.Faulty.{runs}
 use Rattle.steps.specs.Cases.{write_rates, resize_rates}
@@ -24,7 +24,7 @@ fixed_bare es g o f = tightened g (covers o f) es
 -- each piece that is left of a write as an entry of its own, so that each draws a selection
 abbrev pub pieces : ℕ → PartialWriteMode → ℕ → List (ℕ × List ℕ) → List Entry
 pieces g m r [] = []
-pieces g m r (x ∷ xs) = Wrote g x.0 (whole x.1) m r ∷ pieces g m r xs
+pieces g m r (x ∷ xs) = Wrote g x.0 (map Some x.1) m r ∷ pieces g m r xs
 
 -- all writes of a log in such pieces
 abbrev pub torn : List Entry → List Entry
@@ -72,10 +72,10 @@ divided = Configure (write_rates 0 32768 Prefix) ∷ Write 0 0 (0x41 ∷ 0x42 �
 -- What a crash would leave by each wrong log, and that it breaks a promise or differs from the right file.
 pub record VariantsFail : Type 0 where
   -- an older loose byte comes over a later SYNC byte: 42 is neither fixed there nor put since
-  pub older_byte : leaves [] (overwritten ++ (over ∷ [])) (fixed_over (after [] overwritten).log 0 1 (whole (0x58 ∷ []))) ≡ (0x41 ∷ 0x42 ∷ 0x43 ∷ []) ∷ []
+  pub older_byte : leaves [] (overwritten ++ (over ∷ [])) (fixed_over (after [] overwritten).log 0 1 (map Some (0x58 ∷ []))) ≡ (0x41 ∷ 0x42 ∷ 0x43 ∷ []) ∷ []
   pub older_byte_barred : Allowed (cell [] (overwritten ++ (over ∷ [])) 3) (Some 0x42) → ⊥
   -- a resize that was recorded earlier undoes a later SYNC byte: the place is empty, though a byte is fixed and no resize recorded since
-  pub earlier_resize : leaves (40000 ∷ 1 ∷ []) (shortened ++ (behind ∷ [])) (fixed_bare (after (40000 ∷ 1 ∷ []) shortened).log 0 2 (whole (0x5a ∷ []))) ≡ (0x41 ∷ []) ∷ []
+  pub earlier_resize : leaves (40000 ∷ 1 ∷ []) (shortened ++ (behind ∷ [])) (fixed_bare (after (40000 ∷ 1 ∷ []) shortened).log 0 2 (map Some (0x5a ∷ []))) ≡ (0x41 ∷ []) ∷ []
   pub earlier_resize_barred : Allowed (cell (40000 ∷ 1 ∷ []) (shortened ++ (behind ∷ [])) 4) None → ⊥
   -- a selection for each piece that is left: the second piece survives, though the front ended before it
   pub right : leaves (40000 ∷ 1 ∷ []) divided (after (40000 ∷ 1 ∷ []) divided).log ≡ (0x00 ∷ 0x58 ∷ []) ∷ []

@@ -1,4 +1,3 @@
-pub mod Laid
+pub mod Changes
+pub mod Kept
 pub mod Standing
-pub mod Found
-pub mod Rooms

@@ -6,10 +6,10 @@ use Rattle.std.proofs.lemmas.Bool.{cond-true, cond-false, both_ways}
 use Rattle.fault.specs.declared.Fault.{Fault}
 use Rattle.fault.specs.declared.Fault.TheVariants.{BadPartition, PartitionMissing, BlobMissing}
 use Rattle.name.specs.Names.{is_partition}
-use Rattle.table.specs.Tables.{position}
-use Rattle.table.proofs.Finds.{position-none}
-use Rattle.table.proofs.Places.{position-found}
-use Rattle.store.specs.Meaning.{File, Volume, when_some}
+use Rattle.std.specs.List.{position}
+use Rattle.store.proofs.Finds.{position-none, position_found}
+use Rattle.store.specs.declared.file.File.{File}
+use Rattle.store.specs.Meaning.{Volume, when_some}
 use Rattle.store.specs.Durable.{partition_stands, file_at, named, in_standing, of_file}
 use Rattle.memory.specs.Seeks.{partition_place, file_place}
 
@@ -25,10 +25,6 @@ some-apart : {A : Type 0} (o : Option A) (f e : Fault) → is_some o ≡ true �
 some-apart None f e s h = let z : ◌≡◌ {A = ℕ} 0 1 = cc in omega arith
 some-apart (Some x) f e s h = let z : ◌≡◌ {A = ℕ} 0 1 = cc in omega arith
 
-none-missing : {A : Type 0} (o : Option A) (f : Fault) → is_some o ≡ false → ok_or o f ≡ Err f
-none-missing None f s = refl
-none-missing (Some x) f s = absurd (let z : ◌≡◌ {A = ℕ} 0 1 = cc in omega arith)
-
 err-same : {A : Type 0} (e f : Fault) → ◌≡◌ {A = Result A Fault} (Err e) (Err f) → e ≡ f
 err-same e f h = cc
 
@@ -37,7 +33,7 @@ module _ (v : Volume) (p : List ℕ) where
   place = position (λ q. bytes_eq q p) v.partitions
 
   stands-is : is_some place ≡ partition_stands v p
-  stands-is = position-found (λ q. bytes_eq q p) v.partitions
+  stands-is = position_found (λ q. bytes_eq q p) v.partitions
 
   at-standing : {A : Type 0} (r : Result A Fault) → is_partition p ≡ true → partition_stands v p ≡ true → in_standing v p r ≡ r
   at-standing r s t = cond-true _ _ _ s ∙ cond-true _ _ _ t
@@ -47,13 +43,6 @@ module _ (v : Volume) (p : List ℕ) where
 
   at-bad : {A : Type 0} (r : Result A Fault) → is_partition p ≡ false → in_standing v p r ≡ Err BadPartition
   at-bad r s = cond-false _ _ _ s
-
-  pub place_is : is_partition p ≡ true → ok_or place PartitionMissing ≡ partition_place v p
-  place_is s = go (partition_stands v p) refl
-    where
-      go : (t : Bool) → partition_stands v p ≡ t → ok_or place PartitionMissing ≡ partition_place v p
-      go true t = sym (at-standing _ s t)
-      go false t = none-missing place PartitionMissing (stands-is ∙ t) ∙ sym (at-missing _ s t)
 
   -- a call that meets nothing at a place goes on
   passes : {B : Type 0} (o : Option B) (f : Fault) (i : B) → in_standing v p (ok_or o f) ≡ Ok i → (Some i ≡ o) × ((A : Type 0) (r : Result A Fault) → in_standing v p r ≡ r)
@@ -79,24 +68,24 @@ module _ (v : Volume) (p : List ℕ) where
   pub standing : (i : ℕ) → partition_place v p ≡ Ok i → {A : Type 0} (r : Result A Fault) → in_standing v p r ≡ r
   standing i h {A} r = (passes place PartitionMissing i h).1 A r
 
-  pub standing-place : (i : ℕ) → partition_place v p ≡ Ok i → Some i ≡ position (λ q. bytes_eq q p) v.partitions
-  standing-place i h = (passes place PartitionMissing i h).0
+  pub standing_place : (i : ℕ) → partition_place v p ≡ Ok i → Some i ≡ position (λ q. bytes_eq q p) v.partitions
+  standing_place i h = (passes place PartitionMissing i h).0
 
   pub missing : (e : Fault) → partition_place v p ≡ Err e → {A : Type 0} (r : Result A Fault) → in_standing v p r ≡ Err e
   missing e h r =
       stops place PartitionMissing e h r (λ t n. absurd (both_ways (is_some place) (ap is_some (sym n)) (stands-is ∙ t)))
 
-  pub file-place : (n : List ℕ) (i : ℕ) → file_place v p n ≡ Ok i → Some i ≡ position (named p n) v.files
-  file-place n i h = (passes (position (named p n) v.files) BlobMissing i h).0
+  pub file_found : (n : List ℕ) (i : ℕ) → file_place v p n ≡ Ok i → Some i ≡ position (named p n) v.files
+  file_found n i h = (passes (position (named p n) v.files) BlobMissing i h).0
 
-  pub file-standing : (n : List ℕ) (i : ℕ) → file_place v p n ≡ Ok i → {A : Type 0} (r : Result A Fault) → in_standing v p r ≡ r
-  file-standing n i h {A} r = (passes (position (named p n) v.files) BlobMissing i h).1 A r
+  pub file_standing : (n : List ℕ) (i : ℕ) → file_place v p n ≡ Ok i → {A : Type 0} (r : Result A Fault) → in_standing v p r ≡ r
+  file_standing n i h {A} r = (passes (position (named p n) v.files) BlobMissing i h).1 A r
 
-  pub file-missing : (n : List ℕ) (e : Fault) → file_place v p n ≡ Err e → {A : Type 0} (a : File → A) → of_file v p n a ≡ Err e
-  file-missing n e h {A} a =
+  pub file_missing : (n : List ℕ) (e : Fault) → file_place v p n ≡ Err e → {A : Type 0} (a : File → A) → of_file v p n a ≡ Err e
+  file_missing n e h {A} a =
       stops (position (named p n) v.files) BlobMissing e h (when_some (file_at v p n) (λ f. Ok (a f)) (Err BlobMissing))
       (λ t k. ap (λ (o : Option File). when_some o (λ f. Ok (a f)) (Err BlobMissing)) (position-none (named p n) v.files k))
 
-  pub file-ok : (n : List ℕ) (i : ℕ) → file_place v p n ≡ Ok i → (f : File) → file_at v p n ≡ Some f → {A : Type 0} (a : File → A) → of_file v p n a ≡ Ok (a f)
-  file-ok n i h f e {A} a =
-      file-standing n i h (when_some (file_at v p n) (λ f. Ok (a f)) (Err BlobMissing)) ∙ ap (λ (o : Option File). when_some o (λ f. Ok (a f)) (Err BlobMissing)) e
+  pub file_ok : (n : List ℕ) (i : ℕ) → file_place v p n ≡ Ok i → (f : File) → file_at v p n ≡ Some f → {A : Type 0} (a : File → A) → of_file v p n a ≡ Ok (a f)
+  file_ok n i h f e {A} a =
+      file_standing n i h (when_some (file_at v p n) (λ f. Ok (a f)) (Err BlobMissing)) ∙ ap (λ (o : Option File). when_some o (λ f. Ok (a f)) (Err BlobMissing)) e

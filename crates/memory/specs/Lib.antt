@@ -1,2 +1,2 @@
-pub mod Volumes
 pub mod Seeks
+pub mod Changes

@@ -1,8 +1,7 @@
-//! The medium in memory: partitions and files as rows of two tables of fixed size.
+//! The medium in memory: partitions and files in two vectors of fixed capacity.
 #![tactic(auto)]
 
-pub mod changes;
-pub mod finds;
-pub mod medium;
-pub mod row;
-pub mod rows;
+mod medium;
+mod seeks;
+
+pub use seeks::Memory;

@@ -1,57 +1,100 @@
-//! The medium over the rows.
-ghost use Rattle.std.specs.Prelude.{◌≡◌, ◌≤◌, map, length, filter};
-ghost use Rattle.name.specs.Listings.{first, sorted};
-ghost use Rattle.name.specs.Rows.{names_of};
-ghost use Rattle.store.specs.Durable.{in_partition};
-ghost use Rattle.memory.specs.Volumes.{files_of, volume_of};
+//! The medium over the partitions and files in memory.
+ghost use Rattle.std.specs.Prelude.{◌≡◌, ◌≤◌, false, [], ◌∷◌, ◌++◌, length, if◌then◌else◌, Ok};
+ghost use Rattle.name.specs.Listings.{first};
+ghost use Rattle.store.specs.Meaning.{with_files};
+ghost use Rattle.store.specs.Durable.{keep_answer, partition_stands, name_too_long, open_too_long, opened_file, opening_of, new_file, file_stands};
+ghost use Rattle.std.specs.Fn.{FnOnceReturnsAtMut};
+ghost use Rattle.memory.specs.Changes.{IsChanged};
+ghost use Rattle.memory.specs.Seeks.{with_partitions, partition_crowded, file_crowded};
 
-use super::rows::Memory;
-use content::row::Content;
+use super::seeks::Memory;
+use arrayvec::ArrayVec;
+use content::{Content, Patch};
 use fault::Fault;
-use name::letters::is_partition;
-use name::rows::Listing;
-use store::generations::Generations;
-use store::limits::{look_fault, open_too_long, remove_fault, remove_partition_fault, scan_fault};
+use name::{Name, is_partition};
+use store::file::File;
+use store::limits::{
+    FILE_LIMIT, check_look, check_open, check_remove, check_remove_partition, check_scan,
+};
 use store::medium::Medium;
+use store::opening::Opening;
 
+// A partition is one name, a file a record with a header, so each is made by a function of its own.
 impl Memory {
-    /// The names of a partition's files, in ascending order.
-    fn names_in(&self, partition: &[u8]) -> Listing
-        ensures { names_of result ≡ sorted (map (λ f. f.name) (filter (in_partition partition.now) (files_of self.now))) }
+    /// Makes a partition, if it is absent; a `Result` for the `?` of its name, which never fails here.
+    fn make_partition(&mut self, partition: &[u8]) -> Result<(), Fault>
+        requires short { name_too_long partition.now ≡ false }
+        requires room { partition_crowded self.old partition.now ≡ false }
+        ensures made { result ≡ Ok tt }
+        ensures state { self.new ≡ with_partitions self.old (if partition_stands self.old partition.now then self.old.partitions else self.old.partitions ++ (partition.now ∷ [])) }
     {
-        let mut names = Listing::new();
-        for i in 0..self.count {
-            self.files[i].list(partition, &mut names);
+        if !self.has_partition(partition) {
+            self.partitions.push(Name::try_from(partition)?);
         }
-        names
+        Ok(())
+    }
+
+    /// What a handle takes from a file, which is made with this header and generation if it is absent; no `?` fails here.
+    fn open_file(
+        &mut self,
+        partition: &[u8],
+        name: &[u8],
+        header: &[u8],
+        generation: u64,
+    ) -> Result<Opening, Fault>
+        requires short { open_too_long partition.now name.now header.now ≡ false }
+        requires room { file_crowded self.old partition.now name.now ≡ false }
+        ensures it { result ≡ Ok (opening_of (opened_file self.old partition.now name.now header.now generation)) }
+        ensures state { self.new ≡ with_files self.old (if file_stands self.old partition.now name.now then self.old.files else self.old.files ++ (new_file partition.now name.now header.now generation ∷ [])) }
+    {
+        if let Some(file) = self.get(partition, name) {
+            return Ok(file.opening());
+        }
+        let file = File::new(partition, name, header, generation)?;
+        let opening = file.opening();
+        self.files.push(file);
+        Ok(opening)
+    }
+
+    /// Changes the file of a generation, if it stands.
+    fn change<F: FnOnce(&mut File)>(&mut self, generation: u64, change: F) -> Result<(), Fault>
+        requires { F.IsAlwaysCallable change }
+        ensures answer { result ≡ keep_answer self.old generation }
+        ensures state { IsChanged (FnOnceReturnsAtMut F.FnOnce change) self.old generation self.new }
+    {
+        let i = self.find_generation(generation).ok_or(Fault::BlobMissing)?;
+        change(&mut self.files[i]);
+        Ok(())
     }
 }
 
 /// Puts some bytes first in an area and gives how many; the rest of the area stays.
+// The area is the caller's and the answer counts its bytes: no call allocates.
 fn put_first(area: &mut [u8], bytes: &[u8]) -> usize
     requires { length bytes.now ≤ length area.old }
     ensures count { result ≡ length bytes.now }
     ensures put { area.new ≡ first bytes.now area.old }
 {
     let len = bytes.len();
-    area[0..len].copy_from_slice(bytes);
+    area[..len].copy_from_slice(bytes);
     len
 }
 
+// `is_crowded` and `stands` hand on, since the trait asks for them.
 impl Medium for Memory {
-    ghost volume = { volume_of };
+    ghost volume = { λ m. m };
 
     fn reset(&mut self) {
-        self.stand = 0;
-        self.count = 0;
+        self.partitions.clear();
+        self.files.clear();
     }
 
     fn is_crowded(&self, partition: &[u8], name: &[u8]) -> bool {
-        self.lacks_partition(partition) || self.lacks_file(partition, name)
+        self.lacks_room(partition, name)
     }
 
     fn stands(&self, partition: &[u8], name: &[u8]) -> bool {
-        self.has_file(partition, name)
+        self.get(partition, name).is_some()
     }
 
     fn place(
@@ -60,69 +103,50 @@ impl Medium for Memory {
         name: &[u8],
         header: &[u8],
         generation: u64,
-        live: &mut Content,
-    ) -> Result<(u64, usize), Fault> {
-        if open_too_long(partition, name, header) {
-            return Err(Fault::TooLong);
-        }
-        if self.is_crowded(partition, name) {
+    ) -> Result<Opening, Fault> {
+        check_open(partition, name, header)?;
+        if self.lacks_room(partition, name) {
             return Err(Fault::TableFull);
         }
         if !is_partition(partition) {
             return Err(Fault::BadPartition);
         }
-        self.make_partition(partition);
-        let file = self.make_file(partition, name, header, generation);
-        *live = file.durable;
-        Ok((file.generation, file.header))
+        self.make_partition(partition)?;
+        self.open_file(partition, name, header, generation)
     }
 
     fn write(&mut self, generation: u64, at: usize, bytes: &[u8]) -> Result<(), Fault> {
-        let Some(i) = self.find_generation(generation) else {
-            return Err(Fault::BlobMissing);
-        };
-        let files = &mut self.files;
-        files[i].write(at, bytes);
-        Ok(())
+        self.change(generation, |file| file.write(at, bytes))
     }
 
     fn replace(&mut self, generation: u64, live: &Content) -> Result<(), Fault> {
-        let Some(i) = self.find_generation(generation) else {
-            return Err(Fault::BlobMissing);
-        };
-        let files = &mut self.files;
-        files[i].replace(live);
-        Ok(())
+        self.change(generation, |file| file.replace(live))
     }
 
     fn remove(&mut self, partition: &[u8], name: &[u8]) -> Result<(), Fault> {
-        if let Some(fault) = remove_fault(partition, name) {
-            return Err(fault);
-        }
+        check_remove(partition, name)?;
         let i = self.seek(partition, name)?;
-        self.remove_file_at(i);
+        self.files.remove(i);
         Ok(())
     }
 
+    #[tactic(auto, using(crate::proofs::Standing::missing))]
     fn remove_partition(&mut self, partition: &[u8]) -> Result<(), Fault> {
-        if let Some(fault) = remove_partition_fault(partition) {
-            return Err(fault);
-        }
+        check_remove_partition(partition)?;
         let i = self.seek_partition(partition)?;
-        self.remove_partition_at(i);
-        self.remove_files_in(partition);
+        self.partitions.remove(i);
+        self.files.retain(|file| file.is_outside(partition));
         Ok(())
     }
 
     fn generation_at(&self, partition: &[u8], name: &[u8]) -> Option<u64> {
-        let file = self.lookup(partition, name)?;
-        Some(file.generation)
+        self.get(partition, name).map(|file| file.generation)
     }
 
-    fn generations_in(&self, partition: &[u8]) -> Generations {
-        let mut taken = Generations::new();
-        for i in 0..self.count {
-            let file = &self.files[i];
+    #[tactic(auto, using(crate::proofs::Kept::kept_row))]
+    fn generations_in(&self, partition: &[u8]) -> ArrayVec<u64, FILE_LIMIT> {
+        let mut taken = ArrayVec::new();
+        for file in self.files.as_slice() {
             if file.is_in(partition) {
                 taken.push(file.generation);
             }
@@ -130,33 +154,27 @@ impl Medium for Memory {
         taken
     }
 
+    #[tactic(auto, using(crate::proofs::Standing::missing))]
     fn scan(&self, partition: &[u8], area: &mut [u8]) -> Result<usize, Fault> {
-        if let Some(fault) = scan_fault(partition, area.len()) {
-            return Err(fault);
-        }
+        check_scan(partition, area.len())?;
         self.seek_partition(partition)?;
         self.names_in(partition).write(area)
     }
 
     fn look(&self, partition: &[u8], name: &[u8], area: &mut [u8]) -> Result<usize, Fault> {
-        if let Some(fault) = look_fault(partition, name, area.len()) {
-            return Err(fault);
-        }
+        check_look(partition, name, area.len())?;
         let i = self.seek(partition, name)?;
         Ok(put_first(area, self.files[i].durable.as_slice()))
     }
 
-    fn crash_write(&mut self, generation: u64, offset: u64, bytes: &[u8], chosen: &[bool]) {
+    fn crash_write(&mut self, generation: u64, offset: u64, patch: &Patch<'_>) {
+        // No closure as in the other changes: a caller learns nothing of one that captures a patch.
         if let Some(i) = self.find_generation(generation) {
-            let files = &mut self.files;
-            files[i].lay(offset, bytes, chosen);
+            self.files[i].lay(offset, patch);
         }
     }
 
     fn crash_resize(&mut self, generation: u64, len: u64) {
-        if let Some(i) = self.find_generation(generation) {
-            let files = &mut self.files;
-            files[i].resize(len);
-        }
+        let _found = self.change(generation, |file| file.resize(len));
     }
 }

@@ -1,7 +1,7 @@
 -- A listing as it is written into an area.
-use Rattle.std.proofs.Common.{◌≡◌, ℕ, ◌+◌, ◌-◌, ◌<◌, ◌≤◌, List, [], ◌∷◌, ◌++◌, length, get_or, take, drop, set, sym, refl, ap, ◌∙◌, arith}
+use Rattle.std.proofs.Common.{◌≡◌, ℕ, ◌+◌, ◌-◌, ◌*◌, ◌<◌, ◌≤◌, List, [], ◌∷◌, ◌++◌, length, get_or, take, drop, set, sym, refl, ap, ◌∙◌, arith}
 use borrow.Rule.Slice.PartMut.{put_mid}
-use Rattle.std.proofs.lemmas.List.{append_assoc, take_at, take_more, take_more_set, drop-drop, drop-set-lt, flat_map_more, length-append}
+use Rattle.std.proofs.lemmas.List.{append_assoc, take_at, take_more, take_more_set, drop-drop, drop-set-lt, flat_map_more, length-append, take_all}
 use Rattle.std.proofs.lemmas.Slice.{drop-append-drop}
 use Rattle.name.specs.Listings.{listing, first}
 
@@ -9,7 +9,7 @@ use Rattle.name.specs.Listings.{listing, first}
 abbrev pub entry : List ℕ → List ℕ
 entry n = length n ∷ n
 
-pub listing-more : (ns : List (List ℕ)) (i : ℕ) (n : List ℕ) → i < length ns → n ≡ get_or ns i n → listing (take (i + 1) ns) ≡ listing (take i ns) ++ entry n
+listing-more : (ns : List (List ℕ)) (i : ℕ) (n : List ℕ) → i < length ns → n ≡ get_or ns i n → listing (take (i + 1) ns) ≡ listing (take i ns) ++ entry n
 listing-more ns i n h is =
     ap listing (take_more ns i n h ∙ ap (λ x. take i ns ++ (x ∷ [])) (sym is)) ∙ sym (flat_map_more entry [] (take i ns) n)
 
@@ -30,3 +30,24 @@ byte-then area ys n b at from end f e h s =
     let d : drop (end - from) (drop from (set area at b)) ≡ drop end area =
     drop-drop (end - from) from (set area at b) ∙ ap (λ k. drop k (set area at b)) (omega arith) ∙ drop-set-lt end area at b (omega arith) in
     rw (t, d, s) (append_assoc (take at area) (b ∷ []) (n ++ drop end area))
+
+-- the first i names stand in an area
+pub record Listed (ns : List (List ℕ)) (i : ℕ) (area now : List ℕ) (at : ℕ) : Type 0 where
+  pub behind : at ≡ length (listing (take i ns))
+  pub written : now ≡ first (listing (take i ns)) area
+  pub room : at ≤ 17 * i
+
+pub listed-more : (ns : List (List ℕ)) (i : ℕ) (n area now : List ℕ) (at : ℕ) → Listed ns i area now at → i < length ns → n ≡ get_or ns i n
+    → (end : ℕ) (new : List ℕ) → end ≡ at + length (entry n) → end ≤ at + 17 → new ≡ take at now ++ (entry n ++ drop end now) → Listed ns (i + 1) area new end
+listed-more ns i n area now at l h is end new e w s =
+    let more = listing-more ns i n h is in
+    record {
+      behind = e ∙ ap (λ k. k + length (entry n)) l.behind ∙ sym (ap length more ∙ length-append (listing (take i ns)) (entry n));
+      written = first_more (listing (take i ns)) (entry n) area now new at l.behind l.written (s ∙ ap (λ k. take at now ++ (entry n ++ drop k now)) e) ∙ ap (λ bs. first bs area) (sym more);
+      room = omega (arith, l.room);
+    }
+
+pub listed-all : (ns : List (List ℕ)) (i : ℕ) (area now : List ℕ) (at : ℕ) → length ns ≤ i → Listed ns i area now at → (at ≡ length (listing ns)) × (now ≡ first (listing ns) area)
+listed-all ns i area now at h l =
+    let all : take i ns ≡ ns = take_all i ns h in
+    (l.behind ∙ ap (λ xs. length (listing xs)) all, l.written ∙ ap (λ xs. first (listing xs) area) all)

@@ -1,6 +1,6 @@
 -- Names in ascending order, and as a scan writes them.
 use Rattle.std.specs.Prelude.{ℕ, cond, List, [], ◌∷◌, ◌++◌, length, drop}
-use Rattle.std.specs.List.{flat_map}
+use Rattle.std.specs.List.{flat_map, fold}
 use Rattle.name.specs.Names.{before}
 
 -- one more name in an ascending list: it takes the place of the first that it comes before, and that one moves on likewise
@@ -10,8 +10,7 @@ placed n (m ∷ ms) = cond (before n m) (n ∷ placed m ms) (m ∷ placed n ms)
 
 -- some names, placed one after another among others
 abbrev pub placed_all : List (List ℕ) → List (List ℕ) → List (List ℕ)
-placed_all [] ms = ms
-placed_all (n ∷ ns) ms = placed_all ns (placed n ms)
+placed_all ns ms = fold (λ ks n. placed n ks) ms ns
 
 -- names in ascending order
 abbrev pub sorted : List (List ℕ) → List (List ℕ)

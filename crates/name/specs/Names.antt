@@ -1,4 +1,5 @@
 -- Names of partitions and files, as lists of bytes.
+use Rattle.std.specs.List.{list_all}
 use Rattle.std.specs.Prelude.{ℕ, Bool, true, false, cond, ◌&&◌, ◌||◌, List, [], ◌∷◌, length, ◌==◌, nat_le, nat_lt}
 
 -- the most bytes of a partition's or a file's name
@@ -11,14 +12,13 @@ letter b = (nat_le 97 b && nat_le b 122) || ((nat_le 65 b && nat_le b 90) || ((n
 
 -- every byte is a letter, a digit, a hyphen or an underscore
 abbrev pub letters : List ℕ → Bool
-letters [] = true
-letters (b ∷ bs) = letter b && letters bs
+letters bs = list_all letter bs
 
 -- a partition is named by 1 to 16 such letters
 abbrev pub is_partition : List ℕ → Bool
 is_partition bs = (nat_le 1 (length bs) && nat_le (length bs) name_limit) && letters bs
 
--- ascending byte order, a shorter prefix first
+-- ascending byte order, a shorter prefix first; spelled out, where std has a comparison with three answers
 abbrev pub before : List ℕ → List ℕ → Bool
 before [] [] = false
 before [] (y ∷ ys) = true

@@ -1,3 +1,4 @@
+//! What a partition may be named.
 ghost use Rattle.std.specs.Prelude.{◌≡◌};
 ghost use Rattle.name.specs.Names.{letter, letters, is_partition};
 
@@ -18,12 +19,7 @@ pub fn is_letter(b: u8) -> bool
 fn are_letters(bytes: &[u8]) -> bool
     ensures { result ≡ letters bytes.now }
 {
-    for b in bytes {
-        if !is_letter(*b) {
-            return false;
-        }
-    }
-    true
+    bytes.iter().all(|b| is_letter(*b))
 }
 
 /// Whether some bytes name a partition: 1 to 16 letters, digits, hyphens or underscores.

@@ -1,73 +1,68 @@
-ghost use Rattle.std.specs.Prelude.{◌≡◌, ◌≤◌, [], length, if◌then◌else◌, Some, None, nat_le};
-ghost use Rattle.std.specs.Option.{option_map};
-ghost use Rattle.std.specs.Str.{bytes_eq};
-ghost use Rattle.name.specs.Names.{before, name_limit};
-ghost use Rattle.name.specs.Rows.{name_of};
+//! A name, of at most 16 bytes.
+ghost use Rattle.std.specs.Prelude.{◌≡◌, ◌≤◌, [], length, if◌then◌else◌, Ok, Err, nat_le};
+ghost use Rattle.fault.specs.declared.Fault.TheVariants.{TooLong};
+ghost use Rattle.name.specs.Names.{name_limit};
 
 use super::letters::NAME_LIMIT;
-use super::row::Name;
+use arrayvec::ArrayVec;
+use fault::Fault;
+use std::marker::Model;
+
+/// The name of a partition or of a file, seen as its bytes. Names are ordered as their bytes are, a shorter prefix first.
+#[derive(Default, Drop, PartialEq, Eq, PartialOrd, Ord)]
+pub struct Name {
+    bytes: ArrayVec<u8, NAME_LIMIT>,
+}
+
+impl Model for Name {
+    ghost use Rattle.std.specs.Prelude.{ℕ, List};
+
+    ghost Value = { List ℕ };
+
+    ghost view = { λ n. n.bytes.items };
+
+    ghost inverse = { λ bs. record { bytes = record { items = bs } } };
+}
 
 impl Name {
     /// The empty name.
+    // Beside `Default`, as in the library: `new` says its value where it is called.
     pub fn empty() -> Self
-        ensures { name_of result ≡ [] }
+        ensures { result ≡ [] }
     {
         Name {
-            bytes: [0; 16],
-            len: 0,
+            bytes: ArrayVec::new(),
         }
     }
 
-    /// A name of these bytes, if they are at most 16.
-    pub fn new(bytes: &[u8]) -> Option<Name>
-        ensures { option_map name_of result ≡ (if nat_le (length bytes.now) name_limit then Some bytes.now else None) }
-    {
-        if bytes.len() > NAME_LIMIT {
-            return None;
-        }
-        Some(Name::copy(bytes))
-    }
-
-    fn copy(bytes: &[u8]) -> Name
-        requires { length bytes.now ≤ name_limit }
-        ensures { name_of result ≡ bytes.now }
-    {
-        let mut name = Name::empty();
-        let len = bytes.len();
-        name.bytes[0..len].copy_from_slice(bytes);
-        name.len = len;
-        name
-    }
-
+    // One line over the library's: the vector is private.
     pub fn as_slice(&self) -> &[u8]
-        ensures { result.now ≡ name_of self.now }
+        ensures value { result.now ≡ self.now }
+        ensures fits { length result.now ≤ name_limit }
     {
-        &self.bytes[0..self.len]
-    }
-
-    /// Whether these are the name's bytes.
-    pub fn is(&self, bytes: &[u8]) -> bool
-        ensures { result ≡ bytes_eq (name_of self.now) bytes.now }
-    {
-        same(self.as_slice(), bytes)
-    }
-
-    /// Whether the name comes before another in ascending byte order, a shorter prefix first.
-    pub fn is_before(&self, other: &Name) -> bool
-        ensures { result ≡ before (name_of self.now) (name_of other.now) }
-    {
-        less(self.as_slice(), other.as_slice())
+        self.bytes.as_slice()
     }
 }
 
-fn same(a: &[u8], b: &[u8]) -> bool
-    ensures { result ≡ bytes_eq a.now b.now }
-{
-    a == b
+/// A name of these bytes, if they are at most 16.
+impl TryFrom<&[u8]> for Name {
+    type Error = Fault;
+
+    ghost try_from_gives = { λ bytes r. r ≡ (if nat_le (length bytes.now) name_limit then Ok bytes.now else Err TooLong) };
+
+    fn try_from(bytes: &[u8]) -> Result<Self, Fault> {
+        let bytes = ArrayVec::try_from(bytes).map_err(|_| Fault::TooLong)?;
+        Ok(Name { bytes })
+    }
 }
 
-fn less(a: &[u8], b: &[u8]) -> bool
-    ensures { result ≡ before a.now b.now }
-{
-    a < b
+/// The same bytes; a `clone` of the library may fail for want of memory, and this may not.
+impl From<&Name> for Name {
+    ghost from_gives = { λ other name. name ≡ other.now };
+
+    fn from(other: &Name) -> Self {
+        let mut bytes = ArrayVec::new();
+        let _fits = bytes.try_extend_from_slice(other.as_slice());
+        Name { bytes }
+    }
 }

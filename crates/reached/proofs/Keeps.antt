@@ -5,8 +5,11 @@ use Rattle.std.proofs.lemmas.Bool.{cond_both, leb-true}
 use Rattle.content.specs.Bytes.{limit, within, written, cut}
 use Rattle.content.specs.Patches.{Patch, lay}
 use Rattle.content.proofs.Lengths.{length-written, length_cut, lay-keeps, lay-ends}
-use Rattle.table.specs.Tables.{found, amended}
-use Rattle.store.specs.Meaning.{File, Handle, Volume, Disk, with_durable, with_live, with_files, with_volume}
+use Rattle.std.specs.List.{find}
+use Rattle.store.specs.Tables.{amended}
+use Rattle.store.specs.declared.file.File.{File}
+use Rattle.store.specs.declared.handle.Handle.{Handle}
+use Rattle.store.specs.Meaning.{Volume, Disk, with_durable, with_live, with_files, with_volume}
 use Rattle.store.specs.Live.{numbered}
 use Rattle.store.specs.Durable.{generated, crash_written, crash_resized}
 use Rattle.reached.specs.Sound.{Distinct, Sized, name_of, SoundFiles, SoundHandles, Agree, Sound}
@@ -14,7 +17,7 @@ use Rattle.reached.proofs.Lists.{all-amended, keys-amended, length-amended}
 
 -- other durable bytes for the file of a generation
 module _ (v : Volume) (gens g : ℕ) (change : File → List ℕ) (s : SoundFiles v gens)
-    (keeps : (f : File) → found (generated g) v.files ≡ Some f → Sized f.header f.durable → Sized f.header (change f)) where
+    (keeps : (f : File) → find (generated g) v.files ≡ Some f → Sized f.header f.durable → Sized f.header (change f)) where
   abbrev changed : File → File
   changed f = with_durable f (change f)
 
@@ -40,7 +43,7 @@ module _ (v : Volume) (gens g : ℕ) (change : File → List ℕ) (s : SoundFile
 
 -- other live bytes for the handle of a number
 module _ (hs : List Handle) (gens issued n : ℕ) (change : Handle → List ℕ) (s : SoundHandles hs gens issued)
-    (keeps : (h : Handle) → found (numbered n) hs ≡ Some h → Sized h.header h.live → Sized h.header (change h)) where
+    (keeps : (h : Handle) → find (numbered n) hs ≡ Some h → Sized h.header h.live → Sized h.header (change h)) where
   abbrev turned : Handle → Handle
   turned h = with_live h (change h)
 
@@ -78,7 +81,7 @@ sized-within d end new old h s = cond_both (leb end limit) new old (Sized d) (λ
 pub crash-write-sound : (m : Disk) (g offset : ℕ) (os : Patch) → Sound m → Sound (with_volume m (crash_written m.volume g offset os))
 crash-write-sound m g offset os s =
     let change : File → List ℕ = λ f. within (f.header + offset + length os) (lay f.durable (f.header + offset) os) f.durable in
-    let keeps : (f : File) → found (generated g) m.volume.files ≡ Some f → Sized f.header f.durable → Sized f.header (change f) =
+    let keeps : (f : File) → find (generated g) m.volume.files ≡ Some f → Sized f.header f.durable → Sized f.header (change f) =
     λ f e q. sized-within f.header (f.header + offset + length os) (lay f.durable (f.header + offset) os) f.durable (λ h. sized-lay f.header (f.header + offset) f.durable os h q) q in
     record {
       files = files-changed m.volume m.generations g change s.files keeps;
@@ -91,7 +94,7 @@ crash-write-sound m g offset os s =
 pub crash-resize-sound : (m : Disk) (g len : ℕ) → Sound m → Sound (with_volume m (crash_resized m.volume g len))
 crash-resize-sound m g len s =
     let change : File → List ℕ = λ f. within (f.header + len) (cut (f.header + len) f.durable) f.durable in
-    let keeps : (f : File) → found (generated g) m.volume.files ≡ Some f → Sized f.header f.durable → Sized f.header (change f) =
+    let keeps : (f : File) → find (generated g) m.volume.files ≡ Some f → Sized f.header f.durable → Sized f.header (change f) =
     λ f e q. sized-within f.header (f.header + len) (cut (f.header + len) f.durable) f.durable (λ h. sized-cut f.header (f.header + len) f.durable (omega arith) h q) q in
     record {
       files = files-changed m.volume m.generations g change s.files keeps;

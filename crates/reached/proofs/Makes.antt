@@ -8,8 +8,10 @@ use Rattle.std.proofs.ByRecursion.{All-weaker, All-push}
 use Rattle.std.proofs.lemmas.Bool.{leb-false, both_ways, and_from}
 use Rattle.fault.specs.declared.Fault.TheVariants.{TooLong, TableFull, BadPartition}
 use Rattle.name.specs.Names.{name_limit, is_partition}
-use Rattle.table.specs.Tables.{found}
-use Rattle.store.specs.Meaning.{File, Handle, Volume, when_some, when_ok, refused}
+use Rattle.std.specs.List.{find}
+use Rattle.store.specs.declared.file.File.{File}
+use Rattle.store.specs.declared.handle.Handle.{Handle}
+use Rattle.store.specs.Meaning.{Volume, when_some, when_ok, refused}
 use Rattle.store.specs.Durable.{named, file_at, file_stands, partition_stands, partition_limit, file_limit, header_limit, new_file, opened_file}
 use Rattle.reached.specs.Sound.{Distinct, Sized, name_of, SoundFiles, SoundHandles, Agree}
 use Rattle.reached.proofs.Lists.{all_found, none_passes, distinct_push, distinct-found, found-push, found-more}
@@ -45,9 +47,9 @@ module _ (v : Volume) (gens : ℕ) (p : List ℕ) (s : SoundFiles v gens) (valid
     pub there : partition_stands (stood ps) p ≡ true
 
   pub partition-made : Made (cond (partition_stands v p) v.partitions (v.partitions ++ (p ∷ [])))
-  partition-made = go (found (λ q. bytes_eq q p) v.partitions) refl
+  partition-made = go (find (λ q. bytes_eq q p) v.partitions) refl
     where
-      go : (o : Option (List ℕ)) → found (λ q. bytes_eq q p) v.partitions ≡ o → Made (cond (is_some o) v.partitions (v.partitions ++ (p ∷ [])))
+      go : (o : Option (List ℕ)) → find (λ q. bytes_eq q p) v.partitions ≡ o → Made (cond (is_some o) v.partitions (v.partitions ++ (p ∷ [])))
       go (Some q) e = record { sound = s; there = ap is_some e }
       go None e =
           let fails = none_passes (λ q. bytes_eq q p) v.partitions e in

@@ -4,7 +4,8 @@ use Rattle.std.proofs.lemmas.List.{length_push}
 use Rattle.std.proofs.ByRecursion.{All-weaker, All-push}
 use Rattle.std.proofs.lemmas.Bool.{leb-false, ltb-false, or_parts}
 use Rattle.name.specs.Names.{name_limit, is_partition}
-use Rattle.store.specs.Meaning.{Handle, Disk}
+use Rattle.store.specs.declared.handle.Handle.{Handle}
+use Rattle.store.specs.Meaning.{Disk}
 use Rattle.store.specs.Live.{handle_limit, issue_limit, handles_full}
 use Rattle.store.specs.Durable.{file_stands, partition_stands, partition_limit, file_limit, header_limit, name_too_long, open_too_long, crowded, opened_file}
 use Rattle.store.specs.Whole.{opened}

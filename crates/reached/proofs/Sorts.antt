@@ -1,16 +1,16 @@
 -- Placing names one after another sorts them.
-use Rattle.std.proofs.Common.{◌≡◌, ℕ, ◌<◌, Bool, true, false, cond, eqb, ltb, List, [], ◌∷◌, ◌++◌, map, filter, sym, refl, ap, ◌∙◌, subst, arith}
+use Rattle.std.proofs.Common.{◌≡◌, ℕ, true, false, List, [], ◌∷◌, ◌++◌, map, filter, sym, refl, ap, ◌∙◌, subst, arith}
 use Rattle.std.specs.List.{AllByRecursion}
 use Rattle.std.specs.List.Sorted.{IsPermutation}
 use Rattle.std.proofs.lemmas.Slice.Eq.{bytes_eq-Decides}
 use Rattle.std.proofs.ByRecursion.{All-weaker}
 use Rattle.std.proofs.lemmas.List.{append-nil}
-use Rattle.std.proofs.lemmas.List.Sorted.{IsPermutation-refl, IsPermutation-cons, IsPermutation-swap, IsPermutation-trans}
-use Rattle.std.proofs.lemmas.Bool.{cond_both, eqb-true, ltb-true, ltb-false, eq-eqb, lt-ltb, eqb-false, ne_eqb}
+use Rattle.std.proofs.lemmas.List.Sorted.{IsPermutation-refl, IsPermutation-sym, IsPermutation-cons, IsPermutation-swap, IsPermutation-trans, IsPermutation-middle, IsPermutation-append_right}
+use Rattle.std.proofs.lemmas.Bool.{cond_both}
 use Rattle.std.proofs.lemmas.Bool.Decides.{nat_tests}
 use Rattle.name.specs.Names.{before}
 use Rattle.name.specs.Listings.{placed, placed_all, sorted}
-use Rattle.store.specs.Meaning.{File}
+use Rattle.store.specs.declared.file.File.{File}
 use Rattle.store.specs.Durable.{in_partition}
 use Rattle.reached.specs.Calls.{reached}
 use Rattle.reached.specs.Sound.{Distinct, name_of}
@@ -20,50 +20,24 @@ use Rattle.reached.proofs.Runs.{sound}
 -- the order of names
 before_self : (xs : List ℕ) → before xs xs ≡ false
 before_self [] = refl
-before_self (x ∷ xs) = let e = eq-eqb x x refl in rw e (before_self xs)
+before_self (x ∷ xs) = grind (arith, nat_tests, before_self xs)
 
 before-trans : (xs ys zs : List ℕ) → before xs ys ≡ true → before ys zs ≡ true → before xs zs ≡ true
-before-trans [] [] zs a b = absurd (let z : ◌≡◌ {A = ℕ} 0 1 = cc in omega arith)
-before-trans [] (y ∷ ys) [] a b = absurd (let z : ◌≡◌ {A = ℕ} 0 1 = cc in omega arith)
+before-trans [] [] zs a b = cc
+before-trans [] (y ∷ ys) [] a b = cc
 before-trans [] (y ∷ ys) (z ∷ zs) a b = refl
-before-trans (x ∷ xs) [] zs a b = absurd (let z : ◌≡◌ {A = ℕ} 0 1 = cc in omega arith)
-before-trans (x ∷ xs) (y ∷ ys) [] a b = absurd (let z : ◌≡◌ {A = ℕ} 0 1 = cc in omega arith)
-before-trans (x ∷ xs) (y ∷ ys) (z ∷ zs) a b = go (eqb x y) (eqb y z) refl refl (before-trans xs ys zs)
-  where
-    go : (s t : Bool) → eqb x y ≡ s → eqb y z ≡ t → (before xs ys ≡ true → before ys zs ≡ true → before xs zs ≡ true) → cond (eqb x z) (before xs zs) (ltb x z) ≡ true
-    go true true e f more =
-        let k : eqb x z ≡ true = eq-eqb x z (eqb-true x y e ∙ eqb-true y z f) in rw k (more (rw e at a) (rw f at b))
-    go true false e f more =
-        let l : y < z = ltb-true y z (rw f at b) in let q = eqb-true x y e in
-        let k : eqb x z ≡ false = ne_eqb x z (λ d. omega arith) in rw k (lt-ltb x z (omega arith))
-    go false true e f more =
-        let l : x < y = ltb-true x y (rw e at a) in let q = eqb-true y z f in
-        let k : eqb x z ≡ false = ne_eqb x z (λ d. omega arith) in rw k (lt-ltb x z (omega arith))
-    go false false e f more =
-        let l : x < y = ltb-true x y (rw e at a) in let r : y < z = ltb-true y z (rw f at b) in
-        let k : eqb x z ≡ false = ne_eqb x z (λ d. omega arith) in rw k (lt-ltb x z (omega arith))
+before-trans (x ∷ xs) [] zs a b = cc
+before-trans (x ∷ xs) (y ∷ ys) [] a b = cc
+before-trans (x ∷ xs) (y ∷ ys) (z ∷ zs) a b = grind (arith, nat_tests, before-trans xs ys zs)
 
 before-total : (xs ys : List ℕ) → before xs ys ≡ false → (xs ≡ ys → ⊥) → before ys xs ≡ true
 before-total [] [] a n = absurd (n refl)
-before-total [] (y ∷ ys) a n = absurd (let z : ◌≡◌ {A = ℕ} 0 1 = cc in omega arith)
+before-total [] (y ∷ ys) a n = cc
 before-total (x ∷ xs) [] a n = refl
-before-total (x ∷ xs) (y ∷ ys) a n = go (eqb x y) refl (before-total xs ys)
-  where
-    go : (s : Bool) → eqb x y ≡ s → (before xs ys ≡ false → (xs ≡ ys → ⊥) → before ys xs ≡ true) → cond (eqb y x) (before ys xs) (ltb y x) ≡ true
-    go true e more =
-        let q = eqb-true x y e in
-        let k : eqb y x ≡ true = eq-eqb y x (sym q) in rw k (more (rw e at a) (λ d. n (cc)))
-    go false e more =
-        let l = ltb-false x y (rw e at a) in
-        let d = eqb-false x y e in
-        let k : eqb y x ≡ false = ne_eqb y x (λ q. d (sym q)) in
-        rw k (lt-ltb y x (grind (arith, nat_tests)))
+before-total (x ∷ xs) (y ∷ ys) a n = grind (arith, nat_tests, before-total xs ys)
 
 other : (n m : List ℕ) → before n m ≡ true → n ≡ m → ⊥
-other n m a e =
-    let k : before n n ≡ true = subst (λ x. before n x ≡ true) (sym e) a in
-    let b : true ≡ false = sym k ∙ before_self n in
-    let z : ◌≡◌ {A = ℕ} 0 1 = cc in omega arith
+other n m a e = cc (before_self n)
 
 all_placed : (P : List ℕ → Type 0) (n : List ℕ) (ms : List (List ℕ)) → P n → AllByRecursion P ms → AllByRecursion P (placed n ms)
 all_placed P n [] p a = (p, tt)
@@ -98,22 +72,11 @@ placed-shuffles n (m ∷ ms) =
     (IsPermutation-swap (n ∷ (m ∷ ms)) (m ∷ (n ∷ ms)) 0 1 (omega arith) (omega arith) refl)
     (IsPermutation-cons m (n ∷ ms) (placed n ms) (placed-shuffles n ms)))
 
-shuffled-behind : (ns ms ks : List (List ℕ)) → IsPermutation ms ks → IsPermutation (ns ++ ms) (ns ++ ks)
-shuffled-behind [] ms ks s = s
-shuffled-behind (n ∷ ns) ms ks s = IsPermutation-cons n (ns ++ ms) (ns ++ ks) (shuffled-behind ns ms ks s)
-
-to-middle : (n : List ℕ) (ns ms : List (List ℕ)) → IsPermutation (n ∷ (ns ++ ms)) (ns ++ (n ∷ ms))
-to-middle n [] ms = IsPermutation-refl (n ∷ ms)
-to-middle n (k ∷ ns) ms =
-    IsPermutation-trans (n ∷ (k ∷ (ns ++ ms))) (k ∷ (n ∷ (ns ++ ms))) (k ∷ (ns ++ (n ∷ ms)))
-    (IsPermutation-swap (n ∷ (k ∷ (ns ++ ms))) (k ∷ (n ∷ (ns ++ ms))) 0 1 (omega arith) (omega arith) refl)
-    (IsPermutation-cons k (n ∷ (ns ++ ms)) (ns ++ (n ∷ ms)) (to-middle n ns ms))
-
 all-shuffle : (ns ms : List (List ℕ)) → IsPermutation (ns ++ ms) (placed_all ns ms)
 all-shuffle [] ms = IsPermutation-refl ms
 all-shuffle (n ∷ ns) ms =
-    IsPermutation-trans (n ∷ (ns ++ ms)) (ns ++ (n ∷ ms)) (placed_all ns (placed n ms)) (to-middle n ns ms)
-    (IsPermutation-trans (ns ++ (n ∷ ms)) (ns ++ placed n ms) (placed_all ns (placed n ms)) (shuffled-behind ns (n ∷ ms) (placed n ms) (placed-shuffles n ms)) (all-shuffle ns (placed n ms)))
+    IsPermutation-trans _ _ _ (IsPermutation-sym _ _ (IsPermutation-middle ns n ms))
+    (IsPermutation-trans _ _ _ (IsPermutation-append_right ns _ _ (placed-shuffles n ms)) (all-shuffle ns (placed n ms)))
 
 none_apart : (ns : List (List ℕ)) → Apart ns []
 none_apart [] = tt

@@ -4,17 +4,21 @@ use Rattle.std.specs.List.{AllByRecursion}
 use Rattle.std.specs.Str.{bytes_eq}
 use Rattle.std.proofs.ByRecursion.{All-weaker, all_kept_by}
 use Rattle.std.proofs.lemmas.List.{map-id}
+use Rattle.std.proofs.lemmas.List.Sums.{length-filter, count_by-le-length}
 use Rattle.std.proofs.lemmas.Bool.{eqb-true, not-true}
 use Rattle.fault.specs.declared.Fault.{Fault}
 use Rattle.content.specs.Bytes.{limit, written, cut}
-use Rattle.table.specs.Tables.{found, amended, without}
-use Rattle.store.specs.Meaning.{File, Handle, Volume, Disk, with_files, with_handles, with_volume, when_some, when_ok, refused, empty_disk}
+use Rattle.std.specs.List.{find}
+use Rattle.store.specs.Tables.{amended, without}
+use Rattle.store.specs.declared.file.File.{File}
+use Rattle.store.specs.declared.handle.Handle.{Handle}
+use Rattle.store.specs.Meaning.{Volume, Disk, with_files, with_handles, with_volume, when_some, when_ok, refused, empty_disk}
 use Rattle.store.specs.Live.{numbered, handle_at, write_fault, resize_fault, live_resized}
 use Rattle.store.specs.Durable.{generated, named, in_partition, removed, removed_partition, remove_answer, remove_partition_answer, durable_written, durable_replaced}
 use Rattle.store.proofs.Faults.{write-fits, resize-fits}
 use Rattle.store.specs.Whole.{wrote, written_live, written_durable, resized, synced, closed_disk, restarted}
 use Rattle.reached.specs.Sound.{Distinct, Sized, name_of, SoundFiles, Agree, Sound}
-use Rattle.reached.proofs.Lists.{all_without, all_found, found-passes, distinct_without, distinct-kept, length_without, length-kept, all-kept, found-without, same-other}
+use Rattle.reached.proofs.Lists.{all_without, all_found, found-passes, distinct_without, distinct-kept, length_without, all-kept, found-without, same-other}
 use Rattle.reached.proofs.Keeps.{files-changed, agree-changed, handles-changed, agree-turned, sized-written, sized-cut}
 
 module _ (m : Disk) (s : Sound m) (n offset : ℕ) (bs : List ℕ) (none : None ≡ write_fault m.handles n offset (length bs)) where
@@ -24,7 +28,7 @@ module _ (m : Disk) (s : Sound m) (n offset : ℕ) (bs : List ℕ) (none : None 
   abbrev change : Handle → List ℕ
   change h = written h.live (h.header + offset) bs
 
-  keeps : (h : Handle) → found (numbered n) m.handles ≡ Some h → Sized h.header h.live → Sized h.header (change h)
+  keeps : (h : Handle) → find (numbered n) m.handles ≡ Some h → Sized h.header h.live → Sized h.header (change h)
   keeps h e q = sized-written h.header (h.header + offset) h.live bs (ends h e) q
 
   live-sound : Sound (written_live m n offset bs)
@@ -41,7 +45,7 @@ module _ (m : Disk) (s : Sound m) (n offset : ℕ) (bs : List ℕ) (none : None 
   durable-sound None e = live-sound
   durable-sound (Some h) e =
       let alter : File → List ℕ = λ f. written f.durable (h.header + offset) bs in
-      let kept : (f : File) → found (generated h.generation) m.volume.files ≡ Some f → Sized f.header f.durable → Sized f.header (alter f) =
+      let kept : (f : File) → find (generated h.generation) m.volume.files ≡ Some f → Sized f.header f.durable → Sized f.header (alter f) =
       λ f _ q. sized-written f.header (h.header + offset) f.durable bs (ends h e) q in
       record {
         files = files-changed m.volume m.generations h.generation alter s.files kept;
@@ -67,7 +71,7 @@ resize-sound m n len s = go (resize_fault m.handles n len) refl
     go (Some f) e = s
     go None e =
         let alter : Handle → List ℕ = λ h. cut (h.header + len) h.live in
-        let keeps : (h : Handle) → found (numbered n) m.handles ≡ Some h → Sized h.header h.live → Sized h.header (alter h) =
+        let keeps : (h : Handle) → find (numbered n) m.handles ≡ Some h → Sized h.header h.live → Sized h.header (alter h) =
         λ h at q. sized-cut h.header (h.header + len) h.live (omega arith)
         (omega (arith, resize-fits m.handles n len h at e)) q in
         record {
@@ -87,7 +91,7 @@ sync-sound m n s = go (handle_at m.handles n) refl
         let alter : File → List ℕ = λ f. h.live in
         let agrees = all_found (λ (x : Handle). AllByRecursion (λ (f : File). x.generation ≡ f.generation → x.header ≡ f.header) m.volume.files) (numbered n) m.handles h e s.headers in
         let own = all_found (λ (x : Handle). Sized x.header x.live) (numbered n) m.handles h e s.handles.handles_sized in
-        let keeps : (f : File) → found (generated h.generation) m.volume.files ≡ Some f → Sized f.header f.durable → Sized f.header (alter f) =
+        let keeps : (f : File) → find (generated h.generation) m.volume.files ≡ Some f → Sized f.header f.durable → Sized f.header (alter f) =
         λ f at q. subst (λ d. Sized d h.live)
         (all_found (λ (x : File). h.generation ≡ x.generation → h.header ≡ x.header) (generated h.generation) m.volume.files f at agrees
         (sym (eqb-true f.generation h.generation (found-passes (generated h.generation) m.volume.files f at)))) own in
@@ -173,7 +177,7 @@ remove-partition-sound m p s =
     (volume-sound m new s
     (record {
       few_partitions = omega (arith, f.few_partitions, length_without gone ps);
-      few_files = omega (arith, f.few_files, length-kept stays fs);
+      few_files = omega (arith, f.few_files, length-filter stays fs, count_by-le-length stays fs);
       partitions_valid = all_without _ gone ps f.partitions_valid;
       partitions_distinct = subst Distinct (map-id (without gone ps)) (distinct_without (λ (q : List ℕ). q) gone ps (subst Distinct (sym (map-id ps)) f.partitions_distinct));
       files_placed = all-kept _ _ stays

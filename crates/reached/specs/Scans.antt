@@ -8,7 +8,7 @@ use Rattle.store.specs.Meaning.{Volume}
 use Rattle.store.specs.Durable.{in_partition}
 use Rattle.reached.specs.Calls.{Call, reached}
 
--- each name comes before all that follow it
+-- each name comes before all that follow it; std's `AllPairs` says this place by place, and the proofs go by recursion
 abbrev pub Ascending : List (List ℕ) → Type 0
 Ascending [] = Unit {0}
 Ascending (n ∷ ns) = AllByRecursion (λ m. before n m ≡ true) ns × Ascending ns

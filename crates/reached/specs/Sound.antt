@@ -3,12 +3,14 @@ use Rattle.std.specs.Prelude.{◌≡◌, ℕ, ◌<◌, ◌≤◌, true, List, []
 use Rattle.std.specs.List.{AllByRecursion}
 use Rattle.content.specs.Bytes.{limit}
 use Rattle.name.specs.Names.{name_limit, is_partition}
-use Rattle.store.specs.Meaning.{File, Handle, Volume, Disk}
+use Rattle.store.specs.declared.file.File.{File}
+use Rattle.store.specs.declared.handle.Handle.{Handle}
+use Rattle.store.specs.Meaning.{Volume, Disk}
 use Rattle.store.specs.Live.{handle_limit, issue_limit}
 use Rattle.store.specs.Durable.{partition_limit, file_limit, header_limit, partition_stands}
 use Rattle.reached.specs.Calls.{Call, reached}
 
--- no element stands twice
+-- no element stands twice; std's `AllPairs` says this place by place, and the proofs go by recursion on the list
 abbrev pub Distinct : {A : Type 0} → List A → Type 0
 Distinct [] = Unit {0}
 Distinct (x ∷ xs) = AllByRecursion (λ y. x ≢ y) xs × Distinct xs

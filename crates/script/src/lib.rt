@@ -1,12 +1,24 @@
-//! Calls on a store as values, and the line that tells the answer of each.
+//! Calls on a store as values, and the line that tells each call and its answer.
 #![tactic(auto)]
 
+ghost use Rattle.std.specs.Prelude.{◌≡◌, ◌<◌, ◌↔◌, IsNone, IfSome, length, take};
+ghost use Rattle.script.specs.Steps.{IsAnswer, after, area_of};
+
+use content::Patch;
 use fault::Fault;
-use shown::{Flags, Hex, Told};
-use std::io;
+use shown::{Flags, Hex, Kind, Refusal, Told};
+use std::{fmt, io};
 use store::Store;
 
+/// The byte that stands everywhere in an area before `make` makes a call.
+const FILL: u8 = 0xaa;
+
+/// The longest area.
+const LONGEST: usize = 1100;
+
 /// A call with what it is given; of an area the length.
+// A call is data, so that lists of calls can be written down and told; one `match` makes it. Fields go by position, as in the
+// lists, which named ones would make three times as long.
 #[derive(Clone, Copy)]
 pub enum Step<'a> {
     Reset,
@@ -25,213 +37,151 @@ pub enum Step<'a> {
     CrashResize(u64, u64),
 }
 
-/// The longest area.
-const LONGEST: usize = 1100;
+impl fmt::Display for Step<'_> {
+    fn fmt<W: fmt::Write>(&self, f: &mut fmt::Formatter<W>) -> fmt::Result {
+        match *self {
+            Step::Reset => f.write_str("reset"),
+            Step::Restart => f.write_str("restart"),
+            Step::Open(partition, name, header) => {
+                write!(
+                    f,
+                    "open {} {} header {}",
+                    Hex(partition),
+                    Hex(name),
+                    Hex(header)
+                )
+            }
+            Step::Read(handle, offset, len) => write!(f, "read {handle} at {offset} of {len}"),
+            Step::Write(handle, offset, bytes, sync) => {
+                write!(
+                    f,
+                    "{} write {handle} at {offset} of {}",
+                    Kind { sync },
+                    Hex(bytes)
+                )
+            }
+            Step::Resize(handle, len) => write!(f, "resize {handle} to {len}"),
+            Step::Sync(handle) => write!(f, "sync {handle}"),
+            Step::Close(handle) => write!(f, "close {handle}"),
+            Step::Remove(partition, name) => {
+                write!(f, "remove {} {}", Hex(partition), Hex(name))
+            }
+            Step::RemovePartition(partition) => write!(f, "remove partition {}", Hex(partition)),
+            Step::Scan(partition, len) => write!(f, "scan {} of {len}", Hex(partition)),
+            Step::Look(partition, name, len) => {
+                write!(f, "look {} {} of {len}", Hex(partition), Hex(name))
+            }
+            Step::CrashWrite(generation, offset, bytes, chosen) => write!(
+                f,
+                "crash write {generation} at {offset} of {} chosen {}",
+                Hex(bytes),
+                Flags(chosen)
+            ),
+            Step::CrashResize(generation, len) => write!(f, "crash resize {generation} to {len}"),
+        }
+    }
+}
 
-/// The byte that fills an area before a call.
-const FILL: u8 = 0xaa;
+/// What a call answers; one with an area answers with the bytes that the call left there.
+#[derive(Clone, Copy)]
+pub enum Answer<'a> {
+    /// The call answers nothing.
+    Nothing,
+    Done(Result<(), Fault>),
+    /// An open: the handle and the size.
+    Opened(Result<(u64, u64), Fault>),
+    /// A read: where it succeeds it fills its area.
+    Copied(Result<(), Fault>, &'a [u8]),
+    /// A scan or a look: how many bytes of its area it filled.
+    Filled(Result<usize, Fault>, &'a [u8]),
+}
+
+/// An answer as it stands after its call, from the colon on; `kept` counts the bytes that are still the fill.
+impl fmt::Display for Answer<'_> {
+    fn fmt<W: fmt::Write>(&self, f: &mut fmt::Formatter<W>) -> fmt::Result {
+        match *self {
+            Answer::Nothing => Ok(()),
+            Answer::Done(answer) => write!(f, ": {}", Told(answer)),
+            Answer::Opened(answer) => write!(f, ": {}", Told(answer)),
+            Answer::Copied(answer, area) => {
+                let rest = if answer.is_ok() { 0 } else { kept(area) };
+                write!(f, ": {}, area {}, kept {rest}", Told(answer), Hex(area))
+            }
+            Answer::Filled(Ok(count), area) => match area.split_at_checked(count) {
+                Some((filled, rest)) => {
+                    write!(f, ": ok {count}, {}, kept {}", Hex(filled), kept(rest))
+                }
+                None => write!(f, ": ok {count}, past the area"),
+            },
+            Answer::Filled(Err(fault), area) => {
+                write!(f, ": {}, kept {}", Refusal(fault), kept(area))
+            }
+        }
+    }
+}
+
+/// How many bytes are still the fill.
+fn kept(bytes: &[u8]) -> usize {
+    bytes.iter().filter(|&&b| b == FILL).count()
+}
+
+/// Makes a call; one with an area gets the first bytes of this one. Where those are too few it makes none.
+pub fn call<'a, S: Store>(store: &mut S, step: Step<'_>, area: &'a mut [u8]) -> Option<Answer<'a>>
+    ensures none { IsNone result ↔ (length area.old < area_of step.entry) }
+    ensures answer { IfSome result (IsAnswer (S.meaning store.old) step.entry (take (area_of step.entry) area.old)) }
+    ensures state { S.meaning store.new ≡ after (S.meaning store.old) step.entry }
+{
+    Some(match step {
+        Step::Reset => {
+            store.reset();
+            Answer::Nothing
+        }
+        Step::Restart => {
+            store.restart();
+            Answer::Nothing
+        }
+        Step::Open(partition, name, header) => {
+            Answer::Opened(store.open(partition, name, header))
+        }
+        Step::Read(handle, offset, len) => {
+            let area = area.get_mut(..len)?;
+            Answer::Copied(store.read(handle, offset, area), area)
+        }
+        Step::Write(handle, offset, bytes, sync) => {
+            Answer::Done(store.write(handle, offset, bytes, sync))
+        }
+        Step::Resize(handle, len) => Answer::Done(store.resize(handle, len)),
+        Step::Sync(handle) => Answer::Done(store.sync(handle)),
+        Step::Close(handle) => Answer::Done(store.close(handle)),
+        Step::Remove(partition, name) => Answer::Done(store.remove(partition, name)),
+        Step::RemovePartition(partition) => Answer::Done(store.remove_partition(partition)),
+        Step::Scan(partition, len) => {
+            let area = area.get_mut(..len)?;
+            Answer::Filled(store.scan(partition, area), area)
+        }
+        Step::Look(partition, name, len) => {
+            let area = area.get_mut(..len)?;
+            Answer::Filled(store.look(partition, name, area), area)
+        }
+        Step::CrashWrite(generation, offset, bytes, chosen) => {
+            store.crash_write(generation, offset, &Patch::new(bytes, chosen));
+            Answer::Nothing
+        }
+        Step::CrashResize(generation, len) => {
+            store.crash_resize(generation, len);
+            Answer::Nothing
+        }
+    })
+}
 
 /// Makes a call and prints its line.
-pub fn make<S: Store>(rt: &HostRuntime, store: &mut S, step: Step<'_>) -> io::Result<()> {
-    match step {
-        Step::Reset => reset(rt, store),
-        Step::Restart => restart(rt, store),
-        Step::Open(partition, name, header) => open(rt, store, partition, name, header),
-        Step::Read(handle, offset, len) => read(rt, store, handle, offset, len),
-        Step::Write(handle, offset, bytes, sync) => write(rt, store, handle, offset, bytes, sync),
-        Step::Resize(handle, len) => resize(rt, store, handle, len),
-        Step::Sync(handle) => sync(rt, store, handle),
-        Step::Close(handle) => close(rt, store, handle),
-        Step::Remove(partition, name) => remove(rt, store, partition, name),
-        Step::RemovePartition(partition) => remove_partition(rt, store, partition),
-        Step::Scan(partition, len) => scan(rt, store, partition, len),
-        Step::Look(partition, name, len) => look(rt, store, partition, name, len),
-        Step::CrashWrite(generation, offset, bytes, chosen) => {
-            crash_write(rt, store, generation, offset, bytes, chosen)
-        }
-        Step::CrashResize(generation, len) => crash_resize(rt, store, generation, len),
+// The longest area, of which a call has the part that it needs: no call allocates.
+pub fn make<S: Store>(rt: &impl Print, store: &mut S, step: Step<'_>) -> io::Result<()>
+    ensures { S.meaning store.new ≡ after (S.meaning store.old) step.entry }
+{
+    let mut area = [FILL; LONGEST];
+    match call(store, step, &mut area) {
+        Some(answer) => println!(rt; "{step}{answer}"),
+        None => println!(rt; "{step}: no area so long"),
     }
-}
-
-fn reset<S: Store>(rt: &HostRuntime, store: &mut S) -> io::Result<()> {
-    store.reset();
-    println!(rt; "reset")
-}
-
-fn restart<S: Store>(rt: &HostRuntime, store: &mut S) -> io::Result<()> {
-    store.restart();
-    println!(rt; "restart")
-}
-
-fn open<S: Store>(
-    rt: &HostRuntime,
-    store: &mut S,
-    partition: &[u8],
-    name: &[u8],
-    header: &[u8],
-) -> io::Result<()> {
-    let answer = store.open(partition, name, header);
-    let within = Hex(partition);
-    let file = Hex(name);
-    let front = Hex(header);
-    match answer {
-        Ok((handle, size)) => {
-            println!(rt; "open {within} {file} header {front}: ok, handle {handle}, size {size}")
-        }
-        Err(fault) => {
-            let told = Told(Err(fault));
-            println!(rt; "open {within} {file} header {front}: {told}")
-        }
-    }
-}
-
-fn read<S: Store>(
-    rt: &HostRuntime,
-    store: &S,
-    handle: u64,
-    offset: u64,
-    len: usize,
-) -> io::Result<()> {
-    let mut whole = [FILL; LONGEST];
-    if len > LONGEST {
-        return Ok(());
-    }
-    let area = &mut whole[0..len];
-    let answer = store.read(handle, offset, area);
-    let told = Told(answer);
-    let filled = Hex(area);
-    let rest = if answer.is_ok() { 0 } else { kept(area) };
-    println!(rt; "read {handle} at {offset} of {len}: {told}, area {filled}, kept {rest}")
-}
-
-fn write<S: Store>(
-    rt: &HostRuntime,
-    store: &mut S,
-    handle: u64,
-    offset: u64,
-    bytes: &[u8],
-    sync: bool,
-) -> io::Result<()> {
-    let told = Told(store.write(handle, offset, bytes, sync));
-    let shown = Hex(bytes);
-    let kind = if sync { "SYNC" } else { "plain" };
-    println!(rt; "{kind} write {handle} at {offset} of {shown}: {told}")
-}
-
-fn resize<S: Store>(rt: &HostRuntime, store: &mut S, handle: u64, len: u64) -> io::Result<()> {
-    let told = Told(store.resize(handle, len));
-    println!(rt; "resize {handle} to {len}: {told}")
-}
-
-fn sync<S: Store>(rt: &HostRuntime, store: &mut S, handle: u64) -> io::Result<()> {
-    let told = Told(store.sync(handle));
-    println!(rt; "sync {handle}: {told}")
-}
-
-fn close<S: Store>(rt: &HostRuntime, store: &mut S, handle: u64) -> io::Result<()> {
-    let told = Told(store.close(handle));
-    println!(rt; "close {handle}: {told}")
-}
-
-fn remove<S: Store>(
-    rt: &HostRuntime,
-    store: &mut S,
-    partition: &[u8],
-    name: &[u8],
-) -> io::Result<()> {
-    let told = Told(store.remove(partition, name));
-    let within = Hex(partition);
-    let file = Hex(name);
-    println!(rt; "remove {within} {file}: {told}")
-}
-
-fn remove_partition<S: Store>(rt: &HostRuntime, store: &mut S, partition: &[u8]) -> io::Result<()> {
-    let told = Told(store.remove_partition(partition));
-    let within = Hex(partition);
-    println!(rt; "remove partition {within}: {told}")
-}
-
-fn scan<S: Store>(rt: &HostRuntime, store: &S, partition: &[u8], len: usize) -> io::Result<()> {
-    let mut whole = [FILL; LONGEST];
-    if len > LONGEST {
-        return Ok(());
-    }
-    let area = &mut whole[0..len];
-    let answer = store.scan(partition, area);
-    let within = Hex(partition);
-    print!(rt; "scan {within} of {len}: ")?;
-    print_area(rt, answer, area)
-}
-
-fn look<S: Store>(
-    rt: &HostRuntime,
-    store: &S,
-    partition: &[u8],
-    name: &[u8],
-    len: usize,
-) -> io::Result<()> {
-    let mut whole = [FILL; LONGEST];
-    if len > LONGEST {
-        return Ok(());
-    }
-    let area = &mut whole[0..len];
-    let answer = store.look(partition, name, area);
-    let within = Hex(partition);
-    let file = Hex(name);
-    print!(rt; "look {within} {file} of {len}: ")?;
-    print_area(rt, answer, area)
-}
-
-fn crash_write<S: Store>(
-    rt: &HostRuntime,
-    store: &mut S,
-    generation: u64,
-    offset: u64,
-    bytes: &[u8],
-    chosen: &[bool],
-) -> io::Result<()> {
-    store.crash_write(generation, offset, bytes, chosen);
-    let shown = Hex(bytes);
-    let flags = Flags(chosen);
-    println!(rt; "crash write {generation} at {offset} of {shown} chosen {flags}")
-}
-
-fn crash_resize<S: Store>(
-    rt: &HostRuntime,
-    store: &mut S,
-    generation: u64,
-    len: u64,
-) -> io::Result<()> {
-    store.crash_resize(generation, len);
-    println!(rt; "crash resize {generation} to {len}")
-}
-
-/// What a scan or a look answers: the count, as many bytes of the area, and how many of its other bytes it kept.
-fn print_area(rt: &HostRuntime, answer: Result<usize, Fault>, area: &[u8]) -> io::Result<()> {
-    match answer {
-        Ok(count) => {
-            if count > area.len() {
-                return println!(rt; "ok {count}, past the area");
-            }
-            let told = Hex(&area[0..count]);
-            let rest = kept(&area[count..]);
-            println!(rt; "ok {count}, {told}, kept {rest}")
-        }
-        Err(fault) => {
-            let told = Told(Err(fault));
-            let rest = kept(area);
-            println!(rt; "{told}, kept {rest}")
-        }
-    }
-}
-
-/// How many bytes are as an area is before a call.
-fn kept(bytes: &[u8]) -> usize {
-    let mut count = 0usize;
-    for b in bytes {
-        if *b == FILL {
-            count = count.saturating_add(1);
-        }
-    }
-    count
 }

@@ -1,5 +1,6 @@
 -- The steps of the injection layer.
-use Rattle.std.specs.Prelude.{ℕ, suc, ◌+◌, ◌-◌, ◌^◌, min, max, Bool, true, false, cond, not, ◌&&◌, ◌||◌, List, [], ◌∷◌, ◌++◌, length, Some, None, Ok, Err, Option, Result, ◌==◌, nat_eq, nat_le, nat_lt}
+use Rattle.std.specs.Prelude.{ℕ, suc, ◌+◌, ◌-◌, ◌^◌, min, max, Bool, true, false, cond, not, ◌&&◌, ◌||◌, List, [], ◌∷◌, ◌++◌, length, Some, None, Ok, Err, Option, Result, ◌==◌, nat_eq, nat_le, nat_lt, map}
+use Rattle.std.specs.Result.{is_ok}
 use Rattle.fault.specs.declared.Op.{Op}
 use Rattle.fault.specs.declared.Op.TheVariants.{Open, Read, Write, Sync, Resize, Remove, Scan}
 use Rattle.fault.specs.declared.Fault.{Fault}
@@ -7,12 +8,13 @@ use Rattle.fault.specs.declared.Fault.TheVariants.{NoTicket, WriteOverflow, BadR
 use Rattle.draw.specs.Words.{after, rolled, roll_taken, picked, pick_taken}
 use Rattle.draw.specs.Selections.{selected, select_taken}
 use Rattle.content.specs.Patches.{Patch, patch}
-use Rattle.table.specs.Tables.{found, amended, without}
+use Rattle.std.specs.List.{find, fold}
+use Rattle.store.specs.Tables.{amended, without}
 use Rattle.store.specs.Meaning.{Disk, Done, with_volume, when_some, when_ok, refused}
 use Rattle.store.specs.Live.{generation_of, held_fault, write_fault, resize_fault, read_answer, read_area}
 use Rattle.store.specs.Durable.{remove_fault, remove_answer, removed, remove_partition_fault, remove_partition_answer, removed_partition, generation_at, generations_in, scan_fault, scan_answer, scan_leaves, look_answer, look_leaves}
 use Rattle.store.specs.Whole.{open_fault, open_answer, opened, write_answer, wrote, resize_answer, resized, sync_answer, synced, close_answer, closed_disk, restarted}
-use Rattle.steps.specs.Log.{Entry, Wrote, Resized, Marked, log_full, recorded, whole, fixed, dropped, dropped_all, settled, replayed}
+use Rattle.steps.specs.Log.{Entry, Wrote, Resized, Marked, log_full, recorded, fixed, dropped, settled, replayed}
 use Rattle.steps.specs.State.{WriteRates, ResizeRates, Rates, rate_of, write_failure, retention, Size, Faulty, Outcome, least, with_words, changed}
 
 -- a refusal before any draw alters nothing
@@ -38,7 +40,7 @@ is_size h s = s.handle == h
 
 -- the size of a handle
 abbrev pub size_in : List Size → ℕ → ℕ
-size_in ss h = when_some (found (is_size h) ss) (λ s. s.size) 0
+size_in ss h = when_some (find (is_size h) ss) (λ s. s.size) 0
 
 -- a size becomes at least an end
 abbrev pub grown : List Size → ℕ → ℕ → List Size
@@ -74,7 +76,7 @@ remove_step b p n =
     let a = remove_answer v p n in
     turned (remove_fault p n) b []
     (rolling rate Remove b []
-    (done a [] (roll_taken rate) (changed b (with_volume b.store (removed v p n)) (when_ok a (dropped_all b.log (generations_of (generation_at v p n))) b.log) b.sizes)))
+    (done a [] (roll_taken rate) (changed b (with_volume b.store (removed v p n)) (when_ok a (fold dropped b.log (generations_of (generation_at v p n))) b.log) b.sizes)))
 
 -- a removal of a partition likewise
 abbrev pub remove_partition_step : Faulty → List ℕ → Outcome Faulty Done
@@ -84,7 +86,7 @@ remove_partition_step b p =
     let a = remove_partition_answer v p in
     turned (remove_partition_fault p) b []
     (rolling rate Remove b []
-    (done a [] (roll_taken rate) (changed b (with_volume b.store (removed_partition v p)) (when_ok a (dropped_all b.log (generations_in v p)) b.log) b.sizes)))
+    (done a [] (roll_taken rate) (changed b (with_volume b.store (removed_partition v p)) (when_ok a (fold dropped b.log (generations_in v p)) b.log) b.sizes)))
 
 -- a scan rolls, then calls the store
 abbrev pub scan_step : Faulty → List ℕ → List ℕ → Outcome Faulty (Result ℕ Fault)
@@ -171,7 +173,7 @@ failing_write b w h offset bs n =
 -- a write is recorded if retention is set and it has a byte; only a plain write comes here empty
 abbrev pub recording : Faulty → ℕ → ℕ → List ℕ → List Entry
 recording b h offset bs =
-    when_some (retention b.rates) (λ w. cond (is_empty bs) b.log (log_for b h (λ g. recorded b.log (Wrote g offset (whole bs) w.mode w.retention)))) b.log
+    when_some (retention b.rates) (λ w. cond (is_empty bs) b.log (log_for b h (λ g. recorded b.log (Wrote g offset (map Some bs) w.mode w.retention)))) b.log
 
 -- a write of the store: a fault ends it; else the log and the size follow
 abbrev pub writing : Faulty → ℕ → ℕ → List ℕ → Bool → List Entry → Done → ℕ → Outcome Faulty Done
@@ -188,7 +190,7 @@ good_write b h offset bs true n =
     let words = after n b.words in
     cond (rolled rate words)
     (writing b h offset bs false (recording b h offset bs) (Err (Injected Sync)) (n + roll_taken rate))
-    (writing b h offset bs true (log_for b h (λ g. fixed b.log g offset (whole bs))) (Ok tt) (n + roll_taken rate))
+    (writing b h offset bs true (log_for b h (λ g. fixed b.log g offset (map Some bs))) (Ok tt) (n + roll_taken rate))
 
 -- an empty SYNC write succeeds after the handle check alone
 abbrev pub write_step : Faulty → ℕ → ℕ → List ℕ → Bool → Outcome Faulty Done
@@ -266,11 +268,6 @@ ticketed b a m es n =
       issued = b.issued + 1;
     })
 
--- an answer that is no fault
-abbrev pub is_done : Done → Bool
-is_done (Ok _) = true
-is_done (Err f) = false
-
 -- start_sync rolls; on yes its ticket holds the injected fault. Otherwise it syncs at that moment, its ticket holds the
 -- result, and a marker is appended.
 abbrev pub start_sync_step : Faulty → ℕ → Outcome Faulty (Result ℕ Fault)
@@ -280,12 +277,12 @@ start_sync_step b h =
     turned (least (held_fault b.store.handles h) (least (tickets_fault b) (full_fault b.log true))) b []
     (cond (rolled rate b.words)
     (ticketed b (Err (Injected Sync)) b.store b.log (roll_taken rate))
-    (ticketed b a (synced b.store h) (log_for b h (λ g. recorded b.log (Marked g b.issued (is_done a)))) (roll_taken rate)))
+    (ticketed b a (synced b.store h) (log_for b h (λ g. recorded b.log (Marked g b.issued (is_ok a)))) (roll_taken rate)))
 
 -- settle gives the ticket's result and ends it; its marker goes if it stands
 abbrev pub settle_step : Faulty → ℕ → Outcome Faulty Done
 settle_step b t =
-    when_some (found (λ k. nat_eq k.number t) b.tickets)
+    when_some (find (λ k. nat_eq k.number t) b.tickets)
     (λ k. done k.result [] 0 (record {
       store = b.store;
       words = b.words;

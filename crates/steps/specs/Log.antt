@@ -1,5 +1,7 @@
 -- The log: what a crash may keep of the calls before it, oldest entry first.
 use Rattle.std.specs.Prelude.{ℕ, suc, ◌+◌, Bool, true, false, cond, not, ◌&&◌, List, [], ◌∷◌, ◌++◌, length, Some, None, filter, ◌==◌, nat_le}
+use Rattle.std.specs.Option.{is_none}
+use Rattle.std.specs.List.{list_all}
 use Rattle.draw.specs.Words.{Words, after}
 use Rattle.draw.specs.Selections.{selected, select_taken}
 use Rattle.draw.specs.declared.select.PartialWriteMode.{PartialWriteMode}
@@ -33,11 +35,6 @@ log_full es = nat_le log_limit (length es)
 abbrev pub recorded : List Entry → Entry → List Entry
 recorded es e = es ++ (e ∷ [])
 
--- all bytes of a write
-abbrev pub whole : List ℕ → Patch
-whole [] = []
-whole (b ∷ bs) = Some b ∷ whole bs
-
 -- whether a patch that begins at an offset has a byte for another offset
 abbrev pub covers : ℕ → Patch → ℕ → Bool
 covers o [] q = false
@@ -51,9 +48,7 @@ cleared hit o (b ∷ os) = cond (hit o) None b ∷ cleared hit (suc o) os
 
 -- no byte is left
 abbrev pub idle : Patch → Bool
-idle [] = true
-idle (None ∷ os) = idle os
-idle (Some b ∷ os) = false
+idle os = list_all is_none os
 
 -- The places of a written range are no longer loose in any write of its generation; emptied writes leave.
 abbrev pub tightened : ℕ → (ℕ → Bool) → List Entry → List Entry
@@ -82,11 +77,6 @@ fixed es g o f =
 -- all entries of a generation go
 abbrev pub dropped : List Entry → ℕ → List Entry
 dropped es g = filter (λ e. not (generation_in e == g)) es
-
--- and of several generations
-abbrev pub dropped_all : List Entry → List ℕ → List Entry
-dropped_all es [] = es
-dropped_all es (g ∷ gs) = dropped_all (dropped es g) gs
 
 -- a successful marker of a ticket and a generation stands in these
 abbrev pub retires : ℕ → ℕ → List Entry → Bool

@@ -4,7 +4,8 @@ use Rattle.std.specs.Prelude.{ℕ, Bool, cond, not, ◌&&◌, List, [], ◌∷�
 use Rattle.std.specs.Str.{bytes_eq}
 use Rattle.fault.specs.declared.Fault.{Fault}
 use Rattle.fault.specs.declared.Fault.TheVariants.{AlreadyOpen}
-use Rattle.table.specs.Tables.{found, without}
+use Rattle.std.specs.List.{find}
+use Rattle.store.specs.Tables.{without}
 use Rattle.store.specs.Meaning.{Done, when_ok}
 use Rattle.steps.specs.State.{Lease, Faulty, Bench, Outcome}
 use Rattle.steps.specs.Faulty.{open_step, close_step, remove_step, remove_partition_step, restart_step}
@@ -15,7 +16,7 @@ lease_of p n l = bytes_eq l.partition p && bytes_eq l.name n
 
 -- partition and name are leased
 abbrev pub leased : List Lease → List ℕ → List ℕ → Bool
-leased ls p n = is_some (found (lease_of p n) ls)
+leased ls p n = is_some (find (lease_of p n) ls)
 
 -- a step of the layer below, with these leases after it
 abbrev pub lifted : {A : Type 0} → Outcome Faulty A → List Lease → Outcome Bench A

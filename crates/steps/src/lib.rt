@@ -4,8 +4,7 @@
 ghost use Rattle.steps.specs.Cases.{CasesHold};
 
 /// The worked cases of the journal come out of the steps by computing.
-pub fn cases_hold() -> u8
+#[tactic(auto, unfolding(content::specs::Bytes::written, content::specs::Bytes::cut))]
+pub fn cases_hold()
     ensures { CasesHold }
-{
-    0
-}
+{}

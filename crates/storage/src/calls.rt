@@ -1,22 +1,40 @@
-ghost use Rattle.std.specs.Prelude.{◌≡◌, ℕ, ◌-◌, List, length, None};
-ghost use Rattle.content.specs.Contents.{bytes_of};
-ghost use Rattle.store.specs.Meaning.{Disk, empty_disk};
+//! The calls of a store, each handed to the table of handles or to the medium.
+ghost use Rattle.std.specs.Prelude.{◌≡◌, None};
+ghost use Rattle.store.specs.Meaning.{empty_disk};
 ghost use Rattle.store.specs.Whole.{open_fault, open_answer, opened};
-ghost use Rattle.storage.specs.Disks.{disk_over};
 
-use super::state::Storage;
-use content::row::Content;
+use arrayvec::ArrayVec;
+use content::Patch;
 use fault::Fault;
-use handles::rows::Handles;
+use handles::Handles;
+use std::marker::Model;
 use store::Store;
-use store::generations::Generations;
-use store::limits::open_too_long;
+use store::limits::{FILE_LIMIT, check_open};
 use store::medium::Medium;
+
+/// A medium with the handles held on it, seen as the store that they make.
+#[derive(Drop)]
+pub struct Storage<M: Medium> {
+    medium: M,
+    handles: Handles,
+    generations: u64,
+}
+
+impl<M: Medium> Model for Storage<M> {
+    ghost use Rattle.std.specs.Prelude.{◌≤◌};
+    ghost use Rattle.store.specs.Meaning.{Disk};
+
+    ghost Value = { Disk };
+
+    ghost view = { λ s. record { volume = M.volume s.medium; handles = s.handles.handles; generations = s.generations; issued = s.handles.issued } };
+
+    ghost invariant = { λ s. s.generations ≤ s.handles.issued };
+}
 
 impl<M: Medium> Storage<M> {
     /// An empty store on a medium, whatever the medium held.
     pub fn new(mut medium: M) -> Self
-        ensures { disk_over (M.Medium.volume result.medium) result.handles result.generations ≡ empty_disk }
+        ensures { result ≡ empty_disk }
     {
         medium.reset();
         Storage {
@@ -28,32 +46,27 @@ impl<M: Medium> Storage<M> {
 
     /// An open that meets none of the faults of its question.
     fn place(&mut self, partition: &[u8], name: &[u8], header: &[u8]) -> Result<(u64, u64), Fault>
-        requires { open_fault (disk_over (M.Medium.volume self.old.medium) self.old.handles self.old.generations) partition.now name.now header.now ≡ None }
-        ensures answer { result ≡ open_answer (disk_over (M.Medium.volume self.old.medium) self.old.handles self.old.generations) partition.now name.now header.now }
-        ensures state { disk_over (M.Medium.volume self.new.medium) self.new.handles self.new.generations ≡ opened (disk_over (M.Medium.volume self.old.medium) self.old.handles self.old.generations) partition.now name.now header.now }
+        requires { open_fault self.old partition.now name.now header.now ≡ None }
+        ensures answer { result ≡ open_answer self.old partition.now name.now header.now }
+        ensures state { self.new ≡ opened self.old partition.now name.now header.now }
     {
         let stands = self.medium.stands(partition, name);
-        let mut live = Content::new();
-        let (generation, header) = self
+        let opening = self
             .medium
-            .place(partition, name, header, self.generations, &mut live)?;
-        let number = self.handles.open(generation, header, &live)?;
+            .place(partition, name, header, self.generations)?;
+        let size = opening.size();
+        let number = self.handles.open(opening)?;
         if !stands {
             self.generations += 1;
         }
-        Ok((number, size(&live, header)))
+        Ok((number, size))
     }
 }
 
-/// The size of a content behind a header.
-fn size(live: &Content, header: usize) -> u64
-    ensures { result ≡ length (bytes_of live.now) - header }
-{
-    live.len().saturating_sub(header) as u64
-}
-
+// A call that one half alone answers is handed on to it: the halves have traits of their own, so each call is written out. Areas
+// are the caller's, as in the traits.
 impl<M: Medium> Store for Storage<M> {
-    ghost meaning = { λ s. disk_over (M.Medium.volume s.medium) s.handles s.generations };
+    ghost meaning = { λ s. s };
 
     fn reset(&mut self) {
         self.medium.reset();
@@ -61,25 +74,23 @@ impl<M: Medium> Store for Storage<M> {
         self.generations = 0;
     }
 
-    fn ask_open(&self, partition: &[u8], name: &[u8], header: &[u8]) -> Option<Fault> {
-        if open_too_long(partition, name, header) {
-            return Some(Fault::TooLong);
-        }
+    fn ask_open(&self, partition: &[u8], name: &[u8], header: &[u8]) -> Result<(), Fault> {
+        check_open(partition, name, header)?;
         if self.handles.is_full() || self.medium.is_crowded(partition, name) {
-            return Some(Fault::TableFull);
+            return Err(Fault::TableFull);
         }
-        None
+        Ok(())
     }
 
-    fn ask_handle(&self, handle: u64) -> Option<Fault> {
+    fn ask_handle(&self, handle: u64) -> Result<(), Fault> {
         self.handles.ask(handle)
     }
 
-    fn ask_write(&self, handle: u64, offset: u64, len: usize) -> Option<Fault> {
+    fn ask_write(&self, handle: u64, offset: u64, len: usize) -> Result<(), Fault> {
         self.handles.ask_write(handle, offset, len)
     }
 
-    fn ask_resize(&self, handle: u64, len: u64) -> Option<Fault> {
+    fn ask_resize(&self, handle: u64, len: u64) -> Result<(), Fault> {
         self.handles.ask_resize(handle, len)
     }
 
@@ -91,14 +102,12 @@ impl<M: Medium> Store for Storage<M> {
         self.medium.generation_at(partition, name)
     }
 
-    fn generations_in(&self, partition: &[u8]) -> Generations {
+    fn generations_in(&self, partition: &[u8]) -> ArrayVec<u64, FILE_LIMIT> {
         self.medium.generations_in(partition)
     }
 
     fn open(&mut self, partition: &[u8], name: &[u8], header: &[u8]) -> Result<(u64, u64), Fault> {
-        if let Some(fault) = self.ask_open(partition, name, header) {
-            return Err(fault);
-        }
+        self.ask_open(partition, name, header)?;
         self.place(partition, name, header)
     }
 
@@ -107,17 +116,15 @@ impl<M: Medium> Store for Storage<M> {
     }
 
     fn write(&mut self, handle: u64, offset: u64, bytes: &[u8], sync: bool) -> Result<(), Fault> {
-        let Some(blob) = self.handles.get(handle) else {
-            return Err(Fault::NoHandle);
-        };
-        let (generation, header) = (blob.generation, blob.header);
+        let held = self.handles.seek(handle)?;
+        let (generation, header) = (held.generation, held.header);
         self.handles.write(handle, offset, bytes)?;
         if sync {
+            // no `From` between these; the cast is proved to lose nothing
             self.medium
-                .write(generation, header + offset as usize, bytes)
-        } else {
-            Ok(())
+                .write(generation, header + offset as usize, bytes)?;
         }
+        Ok(())
     }
 
     fn resize(&mut self, handle: u64, len: u64) -> Result<(), Fault> {
@@ -125,10 +132,8 @@ impl<M: Medium> Store for Storage<M> {
     }
 
     fn sync(&mut self, handle: u64) -> Result<(), Fault> {
-        match self.handles.get(handle) {
-            Some(blob) => self.medium.replace(blob.generation, &blob.live),
-            None => Err(Fault::NoHandle),
-        }
+        let handle = self.handles.seek(handle)?;
+        self.medium.replace(handle.generation, &handle.live)
     }
 
     fn close(&mut self, handle: u64) -> Result<(), Fault> {
@@ -151,8 +156,8 @@ impl<M: Medium> Store for Storage<M> {
         self.medium.look(partition, name, area)
     }
 
-    fn crash_write(&mut self, generation: u64, offset: u64, bytes: &[u8], chosen: &[bool]) {
-        self.medium.crash_write(generation, offset, bytes, chosen);
+    fn crash_write(&mut self, generation: u64, offset: u64, patch: &Patch<'_>) {
+        self.medium.crash_write(generation, offset, patch);
     }
 
     fn crash_resize(&mut self, generation: u64, len: u64) {

@@ -1,5 +1,6 @@
 //! A store: a table of open handles over any medium.
 #![tactic(auto)]
 
-pub mod calls;
-pub mod state;
+mod calls;
+
+pub use calls::Storage;

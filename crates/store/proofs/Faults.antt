@@ -3,7 +3,8 @@ use Rattle.std.proofs.Common.{◌≡◌, ℕ, ◌+◌, ◌≤◌, cond, ltb, leb
 use Rattle.std.proofs.lemmas.Bool.Decides.{nat_tests}
 use Rattle.fault.specs.declared.Fault.TheVariants.{NoHandle, TooLong, NoSpace}
 use Rattle.content.specs.Bytes.{limit}
-use Rattle.store.specs.Meaning.{Handle, when_some}
+use Rattle.store.specs.declared.handle.Handle.{Handle}
+use Rattle.store.specs.Meaning.{when_some}
 use Rattle.store.specs.Live.{handle_at, write_limit, write_fault, resize_fault}
 
 -- what is met by a handle that is held

@@ -8,8 +8,11 @@ use Rattle.content.specs.Bytes.{limit, written, cut, within}
 use Rattle.content.specs.Patches.{Patch, lay}
 use Rattle.name.specs.Names.{name_limit, is_partition}
 use Rattle.name.specs.Listings.{listing, sorted, scan_area, first}
-use Rattle.table.specs.Tables.{found, amended, without}
-use Rattle.store.specs.Meaning.{File, Volume, with_durable, with_files, when_some, refused, when_ok, Done}
+use Rattle.std.specs.List.{find}
+use Rattle.store.specs.Tables.{amended, without}
+use Rattle.store.specs.declared.opening.Opening.{Opening}
+use Rattle.store.specs.declared.file.File.{File}
+use Rattle.store.specs.Meaning.{Volume, with_durable, with_files, when_some, refused, when_ok, Done}
 
 -- the most partitions and the most files of a store, and the most bytes of a header
 abbrev pub partition_limit : ℕ
@@ -37,15 +40,15 @@ generated g f = f.generation == g
 
 -- the file of a name
 abbrev pub file_at : Volume → List ℕ → List ℕ → Option File
-file_at v p n = found (named p n) v.files
+file_at v p n = find (named p n) v.files
 
 -- the file of a generation
 abbrev pub file_of : Volume → ℕ → Option File
-file_of v g = found (generated g) v.files
+file_of v g = find (generated g) v.files
 
 -- a partition stands
 abbrev pub partition_stands : Volume → List ℕ → Bool
-partition_stands v p = is_some (found (λ q. bytes_eq q p) v.partitions)
+partition_stands v p = is_some (find (λ q. bytes_eq q p) v.partitions)
 
 -- a file of the name stands
 abbrev pub file_stands : Volume → List ℕ → List ℕ → Bool
@@ -84,11 +87,14 @@ opened_volume v p n header g = record {
   files = cond (file_stands v p n) v.files (v.files ++ (new_file p n header g ∷ []));
 }
 
--- what the durable half of an open answers: BadPartition, or the file's generation and header length
-abbrev pub place_answer : Volume → List ℕ → List ℕ → List ℕ → ℕ → Result (ℕ × ℕ) Fault
+-- what a handle takes from the file that it is opened on
+abbrev pub opening_of : File → Opening
+opening_of f = record { generation = f.generation; header = f.header; live = f.durable }
+
+-- what the durable half of an open answers: BadPartition, or what a handle takes from the file
+abbrev pub place_answer : Volume → List ℕ → List ℕ → List ℕ → ℕ → Result Opening Fault
 place_answer v p n header g =
-    refused (place_fault v p n header)
-    (cond (is_partition p) (Ok ((opened_file v p n header g).generation, (opened_file v p n header g).header)) (Err BadPartition))
+    refused (place_fault v p n header) (cond (is_partition p) (Ok (opening_of (opened_file v p n header g))) (Err BadPartition))
 
 -- BadPartition, then PartitionMissing, and else this answer
 abbrev pub in_standing : {A : Type 0} → Volume → List ℕ → Result A Fault → Result A Fault
@@ -175,13 +181,18 @@ durable_written v g at bs = with_files v (amended (generated g) (λ f. with_dura
 abbrev pub durable_replaced : Volume → ℕ → List ℕ → Volume
 durable_replaced v g bs = with_files v (amended (generated g) (λ f. with_durable f bs) v.files)
 
--- what a crash keeps of a write: the bytes of a patch at an offset, or nothing where the patch ends past the limit
+-- a file with the bytes of a patch at an offset, or the same file where the patch ends past the limit
+abbrev pub file_laid : File → ℕ → Patch → File
+file_laid f offset os = with_durable f (within (f.header + offset + length os) (lay f.durable (f.header + offset) os) f.durable)
+
+-- what a crash keeps of a write
 abbrev pub crash_written : Volume → ℕ → ℕ → Patch → Volume
-crash_written v g offset os =
-    with_files v (amended (generated g)
-    (λ f. with_durable f (within (f.header + offset + length os) (lay f.durable (f.header + offset) os) f.durable)) v.files)
+crash_written v g offset os = with_files v (amended (generated g) (λ f. file_laid f offset os) v.files)
+
+-- a file cut or zero-filled to a length behind its header, or the same file where that is past the limit
+abbrev pub file_cut : File → ℕ → File
+file_cut f len = with_durable f (within (f.header + len) (cut (f.header + len) f.durable) f.durable)
 
 -- what a crash keeps of a resize
 abbrev pub crash_resized : Volume → ℕ → ℕ → Volume
-crash_resized v g len =
-    with_files v (amended (generated g) (λ f. with_durable f (within (f.header + len) (cut (f.header + len) f.durable) f.durable)) v.files)
+crash_resized v g len = with_files v (amended (generated g) (λ f. file_cut f len) v.files)

@@ -1,4 +1,4 @@
--- A durable write on a medium of fixed rows.
+-- A durable write as a medium is asked for it: past the limit nothing changes.
 use Rattle.std.specs.Prelude.{ℕ, ◌+◌, cond, List, length, nat_le}
 use Rattle.content.specs.Bytes.{limit}
 use Rattle.store.specs.Meaning.{Volume}

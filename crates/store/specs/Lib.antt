@@ -2,5 +2,5 @@ pub mod Meaning
 pub mod Live
 pub mod Durable
 pub mod Whole
-pub mod Taken
+pub mod Tables
 pub mod Held

@@ -4,8 +4,10 @@ use Rattle.std.specs.Option.{option_map}
 use Rattle.fault.specs.declared.Fault.{Fault}
 use Rattle.fault.specs.declared.Fault.TheVariants.{NoHandle, TooLong, ReadOverflow, NoSpace, InsufficientLength}
 use Rattle.content.specs.Bytes.{limit, written, cut}
-use Rattle.table.specs.Tables.{found, amended, without}
-use Rattle.store.specs.Meaning.{Handle, with_live, when_some, when_ok, Done}
+use Rattle.std.specs.List.{find}
+use Rattle.store.specs.Tables.{amended, without}
+use Rattle.store.specs.declared.handle.Handle.{Handle}
+use Rattle.store.specs.Meaning.{with_live, when_some, when_ok, Done}
 
 -- the most handles held at once, and the most ever issued
 abbrev pub handle_limit : ℕ
@@ -25,7 +27,7 @@ numbered n h = h.number == n
 
 -- the handle with a number
 abbrev pub handle_at : List Handle → ℕ → Option Handle
-handle_at hs n = found (numbered n) hs
+handle_at hs n = find (numbered n) hs
 
 -- no room for one more handle, or no number left
 abbrev pub handles_full : List Handle → ℕ → Bool
@@ -43,16 +45,25 @@ generation_of hs n = option_map (λ h. h.generation) (handle_at hs n)
 abbrev pub held_fault : List Handle → ℕ → Option Fault
 held_fault hs n = when_some (handle_at hs n) (λ h. None) (Some NoHandle)
 
--- what a write of a length at an offset meets: NoHandle, then TooLong, then NoSpace
-abbrev pub write_fault : List Handle → ℕ → ℕ → ℕ → Option Fault
-write_fault hs n offset len =
-    when_some (handle_at hs n)
-    (λ h. cond (nat_lt write_limit len) (Some TooLong) (cond (nat_le (offset + len + h.header) limit) None (Some NoSpace)))
-    (Some NoHandle)
+-- NoSpace where a change ends past the limit, header counted
+abbrev pub end_met : ℕ → Option Fault
+end_met end = cond (nat_le end limit) None (Some NoSpace)
 
--- what a resize to a length meets: NoHandle, then NoSpace
+-- what a write of a length at an offset of a handle meets: TooLong, then NoSpace
+abbrev pub write_met : Handle → ℕ → ℕ → Option Fault
+write_met h offset len = cond (nat_lt write_limit len) (Some TooLong) (end_met (offset + len + h.header))
+
+-- NoHandle comes first
+abbrev pub write_fault : List Handle → ℕ → ℕ → ℕ → Option Fault
+write_fault hs n offset len = when_some (handle_at hs n) (λ h. write_met h offset len) (Some NoHandle)
+
+-- what a resize of a handle to a length meets
+abbrev pub resize_met : Handle → ℕ → Option Fault
+resize_met h len = end_met (len + h.header)
+
+-- NoHandle, then NoSpace
 abbrev pub resize_fault : List Handle → ℕ → ℕ → Option Fault
-resize_fault hs n len = when_some (handle_at hs n) (λ h. cond (nat_le (len + h.header) limit) None (Some NoSpace)) (Some NoHandle)
+resize_fault hs n len = when_some (handle_at hs n) (λ h. resize_met h len) (Some NoHandle)
 
 -- a read of a length at an offset: ReadOverflow where its end, header counted, passes 2^64 - 1, then InsufficientLength
 -- where it passes the live bytes

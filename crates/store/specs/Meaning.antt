@@ -1,23 +1,9 @@
--- What a store means: partitions and files, which a restart leaves, and open handles, which it ends.
+-- What a store means: partitions and files, which a restart leaves, and open handles, which it ends. A file and a handle are
+-- the structs of the code, with names and contents as lists of bytes.
 use Rattle.std.specs.Prelude.{ℕ, List, [], Some, None, Ok, Err, Option, Result}
 use Rattle.fault.specs.declared.Fault.{Fault}
-
--- A file: its durable bytes begin with a header, whose length `header` is fixed when the file is made. Its generation
--- tells it from every other file ever made: a file made again under the same name has another one.
-pub record File : Type 0 where
-  pub partition : List ℕ
-  pub name : List ℕ
-  pub generation : ℕ
-  pub header : ℕ
-  pub durable : List ℕ
-
--- An open handle: its live bytes are its own copy, header included. It keeps the generation and the header length of the
--- file that it was opened on.
-pub record Handle : Type 0 where
-  pub number : ℕ
-  pub generation : ℕ
-  pub header : ℕ
-  pub live : List ℕ
+use Rattle.store.specs.declared.file.File.{File}
+use Rattle.store.specs.declared.handle.Handle.{Handle}
 
 -- What a restart leaves: partitions and files, each in the order of their making. No call shows that order; it makes the
 -- meaning the same whichever place an implementation gives a file.
@@ -62,7 +48,7 @@ with_handles m hs = record { volume = m.volume; handles = hs; generations = m.ge
 abbrev pub with_volume : Disk → Volume → Disk
 with_volume m v = record { volume = v; handles = m.handles; generations = m.generations; issued = m.issued }
 
--- what is made of the value in a `Some`, or else a default
+-- what is made of the value in a `Some`, or else a default; std's `option_map_or` takes the parts in another order
 abbrev pub when_some : {A B : Type 0} → Option A → (A → B) → B → B
 when_some None f b = b
 when_some (Some a) f b = f a
@@ -72,11 +58,15 @@ abbrev pub refused : {A : Type 0} → Option Fault → Result A Fault → Result
 refused None r = r
 refused (Some f) r = Err f
 
+-- the answer of a call that gives no number
+abbrev pub Done : Type 0
+Done = Result (Unit {0}) Fault
+
+-- the answer of a question: the fault that is met, or none
+abbrev pub permitted : Option Fault → Done
+permitted f = refused f (Ok tt)
+
 -- what a call leaves: the new where it succeeds, and else the old
 abbrev pub when_ok : {A B : Type 0} → Result A Fault → B → B → B
 when_ok (Ok a) new old = new
 when_ok (Err f) new old = old
-
--- the answer of a call that gives no number
-abbrev pub Done : Type 0
-Done = Result (Unit {0}) Fault

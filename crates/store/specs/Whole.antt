@@ -3,7 +3,8 @@ use Rattle.std.specs.Prelude.{ℕ, ◌+◌, ◌-◌, Bool, cond, ◌||◌, List,
 use Rattle.fault.specs.declared.Fault.{Fault}
 use Rattle.fault.specs.declared.Fault.TheVariants.{NoHandle, TooLong, TableFull, BadPartition}
 use Rattle.name.specs.Names.{is_partition}
-use Rattle.store.specs.Meaning.{File, Volume, Disk, with_handles, with_volume, when_some, refused, when_ok, Done}
+use Rattle.store.specs.declared.file.File.{File}
+use Rattle.store.specs.Meaning.{Volume, Disk, with_handles, with_volume, when_some, refused, when_ok, Done}
 use Rattle.store.specs.Live.{handle_at, handles_full, handles_with, held_fault, write_fault, resize_fault, live_written, live_resized, closed}
 use Rattle.store.specs.Durable.{open_too_long, crowded, opened_file, opened_volume, file_stands, keep_answer, durable_written, durable_replaced}
 

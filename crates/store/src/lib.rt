@@ -2,25 +2,28 @@
 #![tactic(auto)]
 
 ghost use Rattle.std.specs.Prelude.{◌≡◌, ℕ, Bool, List, [], length};
-ghost use Rattle.content.specs.Patches.{patch};
-ghost use Rattle.store.specs.Meaning.{Disk, empty_disk, with_volume};
+ghost use Rattle.store.specs.Meaning.{Disk, empty_disk, permitted, with_volume};
 ghost use Rattle.store.specs.Live.{generation_of, held_fault, write_fault, resize_fault, read_answer, read_area};
 ghost use Rattle.store.specs.Durable.{remove_fault, remove_partition_fault, scan_fault, look_fault, remove_answer, removed, remove_partition_answer, removed_partition, generation_at, generations_in, scan_answer, scan_leaves, look_answer, look_leaves, crash_written, crash_resized};
 ghost use Rattle.store.specs.Whole.{open_fault, open_answer, opened, write_answer, wrote, resize_answer, resized, sync_answer, synced, close_answer, closed_disk, restarted};
-ghost use Rattle.store.specs.Taken.{taken};
 
+use arrayvec::ArrayVec;
+use content::Patch;
 use fault::Fault;
-use generations::Generations;
-use limits::{look_fault, remove_fault, remove_partition_fault, scan_fault};
+use limits::{FILE_LIMIT, check_look, check_remove, check_remove_partition, check_scan};
 
-pub mod gather;
-pub mod generations;
+pub mod file;
+pub mod handle;
 pub mod limits;
 pub mod medium;
+pub mod opening;
 
 /// A store by its meaning: each call's answer, the bytes of its area and the meaning after it are given by a definition.
 /// Nothing is demanded of a caller: what a store cannot do it refuses, and a refusal alters nothing, with one exception: a
 /// SYNC write whose file is missing keeps its live change. Calls on `&self` leave the meaning as it was.
+// A partition and a name, a handle and an offset stay parameters of their own, as docs/BENCH.md has them: a call takes the ones
+// that it needs. A write's `sync` is its one bit there too, and an open answers two plain numbers. An area is the caller's, and
+// the answer counts its bytes, since no call allocates. `with_volume` is the definitions' word, by which a clause is one equation.
 pub trait Store {
     ghost meaning: { Self → Disk };
 
@@ -30,47 +33,49 @@ pub trait Store {
 
     /// Which fault an open would meet before anything else; like every question it tells none of the faults about a
     /// partition's name, a missing partition or a missing file.
-    fn ask_open(&self, partition: &[u8], name: &[u8], header: &[u8]) -> Option<Fault>
-        ensures { result ≡ open_fault (meaning self.now) partition.now name.now header.now };
+    fn ask_open(&self, partition: &[u8], name: &[u8], header: &[u8]) -> Result<(), Fault>
+        ensures { result ≡ permitted (open_fault (meaning self.now) partition.now name.now header.now) };
 
     /// Which fault a read, a sync or a close would meet before anything else.
-    fn ask_handle(&self, handle: u64) -> Option<Fault>
-        ensures { result ≡ held_fault (meaning self.now).handles handle };
+    fn ask_handle(&self, handle: u64) -> Result<(), Fault>
+        ensures { result ≡ permitted (held_fault (meaning self.now).handles handle) };
 
     /// Which fault a write of a length would meet before anything else.
-    fn ask_write(&self, handle: u64, offset: u64, len: usize) -> Option<Fault>
-        ensures { result ≡ write_fault (meaning self.now).handles handle offset len };
+    fn ask_write(&self, handle: u64, offset: u64, len: usize) -> Result<(), Fault>
+        ensures { result ≡ permitted (write_fault (meaning self.now).handles handle offset len) };
 
     /// Which fault a resize would meet before anything else.
-    fn ask_resize(&self, handle: u64, len: u64) -> Option<Fault>
-        ensures { result ≡ resize_fault (meaning self.now).handles handle len };
+    fn ask_resize(&self, handle: u64, len: u64) -> Result<(), Fault>
+        ensures { result ≡ permitted (resize_fault (meaning self.now).handles handle len) };
+
+    // The next four ask for lengths alone, so they have one body for all stores.
 
     /// Which fault a removal of a file would meet before anything else.
-    fn ask_remove(&self, partition: &[u8], name: &[u8]) -> Option<Fault>
-        ensures { result ≡ remove_fault partition.now name.now }
+    fn ask_remove(&self, partition: &[u8], name: &[u8]) -> Result<(), Fault>
+        ensures { result ≡ permitted (remove_fault partition.now name.now) }
     {
-        remove_fault(partition, name)
+        check_remove(partition, name)
     }
 
     /// Which fault a removal of a partition would meet before anything else.
-    fn ask_remove_partition(&self, partition: &[u8]) -> Option<Fault>
-        ensures { result ≡ remove_partition_fault partition.now }
+    fn ask_remove_partition(&self, partition: &[u8]) -> Result<(), Fault>
+        ensures { result ≡ permitted (remove_partition_fault partition.now) }
     {
-        remove_partition_fault(partition)
+        check_remove_partition(partition)
     }
 
     /// Which fault a scan into an area of a length would meet before anything else.
-    fn ask_scan(&self, partition: &[u8], area: usize) -> Option<Fault>
-        ensures { result ≡ scan_fault partition.now area }
+    fn ask_scan(&self, partition: &[u8], area: usize) -> Result<(), Fault>
+        ensures { result ≡ permitted (scan_fault partition.now area) }
     {
-        scan_fault(partition, area)
+        check_scan(partition, area)
     }
 
     /// Which fault a look into an area of a length would meet before anything else.
-    fn ask_look(&self, partition: &[u8], name: &[u8], area: usize) -> Option<Fault>
-        ensures { result ≡ look_fault partition.now name.now area }
+    fn ask_look(&self, partition: &[u8], name: &[u8], area: usize) -> Result<(), Fault>
+        ensures { result ≡ permitted (look_fault partition.now name.now area) }
     {
-        look_fault(partition, name, area)
+        check_look(partition, name, area)
     }
 
     /// The generation of the file that a handle was opened on, which may be gone.
@@ -82,8 +87,8 @@ pub trait Store {
         ensures { result ≡ generation_at (meaning self.now).volume partition.now name.now };
 
     /// The generations that a removal of a partition takes.
-    fn generations_in(&self, partition: &[u8]) -> Generations
-        ensures { taken result ≡ generations_in (meaning self.now).volume partition.now };
+    fn generations_in(&self, partition: &[u8]) -> ArrayVec<u64, FILE_LIMIT>
+        ensures { result.items ≡ generations_in (meaning self.now).volume partition.now };
 
     /// Opens a file; makes the partition if it is missing, and the file, with this header, if it is missing. Gives the
     /// handle's number and the file's size.
@@ -137,10 +142,10 @@ pub trait Store {
         ensures answer { result ≡ look_answer (meaning self.now).volume partition.now name.now (length area.old) }
         ensures put { area.new ≡ look_leaves (meaning self.now).volume partition.now name.now area.old };
 
-    /// Stores the chosen ones of some bytes in the durable bytes of a generation's file, if any; where they end past the
-    /// limit nothing changes.
-    fn crash_write(&mut self, generation: u64, offset: u64, bytes: &[u8], chosen: &[bool])
-        ensures { meaning self.new ≡ with_volume (meaning self.old) (crash_written (meaning self.old).volume generation offset (patch bytes.now chosen.now)) };
+    /// Stores the bytes of a patch in the durable bytes of a generation's file, if any; where the patch ends past the limit
+    /// nothing changes.
+    fn crash_write(&mut self, generation: u64, offset: u64, patch: &Patch<'_>)
+        ensures { meaning self.new ≡ with_volume (meaning self.old) (crash_written (meaning self.old).volume generation offset patch.now) };
 
     /// Cuts or zero-fills the durable bytes of a generation's file, if any; past the limit nothing changes.
     fn crash_resize(&mut self, generation: u64, len: u64)

@@ -1,65 +1,86 @@
 //! The faults that depend on the lengths of a call's parts alone.
-ghost use Rattle.std.specs.Prelude.{◌≡◌, length};
+ghost use Rattle.std.specs.Prelude.{◌≡◌, if◌then◌else◌, Some, None};
+ghost use Rattle.fault.specs.declared.Fault.TheVariants.{TooLong};
+ghost use Rattle.store.specs.Meaning.{permitted};
 ghost use Rattle.store.specs.Durable.{name_too_long, open_too_long, remove_fault, remove_partition_fault, scan_fault, look_fault};
 
-use content::row::LIMIT;
+use content::LIMIT;
 use fault::Fault;
-use name::letters::NAME_LIMIT;
-use name::listing::SCAN_AREA;
+use name::{NAME_LIMIT, SCAN_AREA};
 
-/// The most partitions and the most files of a store, and the most bytes of a header.
+/// The most partitions of a store.
 pub const PARTITION_LIMIT: usize = 4;
 
+/// The most files of a store.
 pub const FILE_LIMIT: usize = 8;
 
+/// The most bytes of a header.
 pub const HEADER_LIMIT: usize = 64;
 
+/// Whether a partition or a name has over 16 bytes.
 pub fn name_too_long(name: &[u8]) -> bool
     ensures { result ≡ name_too_long name.now }
 {
     name.len() > NAME_LIMIT
 }
 
+/// Whether a part of an open is too long.
 pub fn open_too_long(partition: &[u8], name: &[u8], header: &[u8]) -> bool
     ensures { result ≡ open_too_long partition.now name.now header.now }
 {
     name_too_long(partition) || name_too_long(name) || header.len() > HEADER_LIMIT
 }
 
-pub fn remove_fault(partition: &[u8], name: &[u8]) -> Option<Fault>
-    ensures { result ≡ remove_fault partition.now name.now }
+// One function for each call, since each takes other parts; what two calls share, one asks of the other.
+
+/// Which fault an open meets by lengths.
+pub fn check_open(partition: &[u8], name: &[u8], header: &[u8]) -> Result<(), Fault>
+    ensures { result ≡ permitted (if open_too_long partition.now name.now header.now then Some TooLong else None) }
+{
+    if open_too_long(partition, name, header) {
+        return Err(Fault::TooLong);
+    }
+    Ok(())
+}
+
+/// Which fault a removal of a file meets by lengths.
+pub fn check_remove(partition: &[u8], name: &[u8]) -> Result<(), Fault>
+    ensures { result ≡ permitted (remove_fault partition.now name.now) }
 {
     if name_too_long(partition) || name_too_long(name) {
-        return Some(Fault::TooLong);
+        return Err(Fault::TooLong);
     }
-    None
+    Ok(())
 }
 
-pub fn remove_partition_fault(partition: &[u8]) -> Option<Fault>
-    ensures { result ≡ remove_partition_fault partition.now }
+/// Which fault a removal of a partition meets by lengths.
+pub fn check_remove_partition(partition: &[u8]) -> Result<(), Fault>
+    ensures { result ≡ permitted (remove_partition_fault partition.now) }
 {
     if name_too_long(partition) {
-        return Some(Fault::TooLong);
+        return Err(Fault::TooLong);
     }
-    None
+    Ok(())
 }
 
-pub fn scan_fault(partition: &[u8], area: usize) -> Option<Fault>
-    ensures { result ≡ scan_fault partition.now area }
+/// Which fault a scan meets by lengths.
+pub fn check_scan(partition: &[u8], area: usize) -> Result<(), Fault>
+    ensures { result ≡ permitted (scan_fault partition.now area) }
 {
-    let fault = remove_partition_fault(partition);
-    if fault.is_none() && area < SCAN_AREA {
-        return Some(Fault::ShortArea);
+    check_remove_partition(partition)?;
+    if area < SCAN_AREA {
+        return Err(Fault::ShortArea);
     }
-    fault
+    Ok(())
 }
 
-pub fn look_fault(partition: &[u8], name: &[u8], area: usize) -> Option<Fault>
-    ensures { result ≡ look_fault partition.now name.now area }
+/// Which fault a look meets by lengths.
+pub fn check_look(partition: &[u8], name: &[u8], area: usize) -> Result<(), Fault>
+    ensures { result ≡ permitted (look_fault partition.now name.now area) }
 {
-    let fault = remove_fault(partition, name);
-    if fault.is_none() && area < LIMIT {
-        return Some(Fault::ShortArea);
+    check_remove(partition, name)?;
+    if area < LIMIT {
+        return Err(Fault::ShortArea);
     }
-    fault
+    Ok(())
 }

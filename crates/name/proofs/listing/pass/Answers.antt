@@ -1,22 +1,17 @@
-use Rattle.std.proofs.Common.{map, sym, refl, ◌∙◌, arith}
-use Rattle.std.proofs.lemmas.List.{length-map}
-use Rattle.name.specs.Rows.{name_of}
-use Rattle.name.proofs.Passes.{pass-stays, pass-takes, pass-done}
+use Rattle.std.proofs.Common.{get_or, sym, ◌∙◌, arith, rules}
+use Rattle.name.proofs.Orders.{less-is-before}
+use Rattle.name.proofs.Passes.{turn-takes, turn-passes, pass-done}
+use Rattle.name.proofs.listing.pass.Goals.{then-lt, else-lt}
 use Rattle.name.proofs.listing.pass.Goals as goal
-use Rattle.name.proofs.listing.pass.Goals.{then-is_before, else-is_before}
 
-pub loop-i-init : goal.loop-i-init
-loop-i-init c = refl
-
-pub loop-i-preserved : goal.loop-i-preserved
-loop-i-preserved c = elim c.if-is_before.branch [
-  | then-is_before w ↦ rw (w.names-is, w.last-is)
-      (pass-takes name_of c.loop-i.names c.loop-i.i (omega arith) c.index-names-i.result c.loop-i.last c.index-names-i.is (sym c.is_before.ensures ∙ w.if-is_before.true)
-      ∙ c.loop-i.invariant)
-  | else-is_before w ↦ rw (w.names-is, w.last-is)
-      (pass-stays name_of c.loop-i.names c.loop-i.i (omega arith) c.index-names-i.result c.loop-i.last c.index-names-i.is (sym c.is_before.ensures ∙ w.if-is_before.false)
-      ∙ c.loop-i.invariant)
-]
+pub loop-here-preserved : goal.loop-here-preserved
+loop-here-preserved c =
+    elim c.if-lt.branch [
+      | then-lt w ↦ turn-takes c.loop-here.here-items _ c.loop-here.here-index (omega arith) c.here-item.result c.loop-here.last _ c.here-item.is
+          (sym (less-is-before c.loop-here.last (get_or c.loop-here.here-items c.loop-here.here-index c.here-item.result) c.lt.result c.lt.ensures) ∙ w.if-lt.true) (w.last-is ∙ w.swap.ensures.y_after) (search (rules, w.here-items-is, w.swap.ensures.x_after)) ∙ c.loop-here.invariant
+      | else-lt w ↦ turn-passes c.loop-here.here-items _ c.loop-here.here-index (omega arith) c.here-item.result c.loop-here.last _ c.here-item.is
+          (sym (less-is-before c.loop-here.last (get_or c.loop-here.here-items c.loop-here.here-index c.here-item.result) c.lt.result c.lt.ensures) ∙ w.if-lt.false) w.last-is w.here-items-is ∙ c.loop-here.invariant
+    ]
 
 pub returns : goal.returns
-returns c = pass-done (map name_of c.loop-i.names) c.loop-i.i (name_of c.loop-i.last) (omega (arith, length-map c.loop-i.names name_of)) ∙ c.loop-i.invariant
+returns c = pass-done c.loop-here.here-items c.loop-here.here-index c.loop-here.last (omega arith) ∙ c.loop-here.invariant

@@ -1,8 +1,9 @@
-use Rattle.std.proofs.Common.{◌≡◌, map}
+use Rattle.std.proofs.Common.{◌≡◌}
 use Rattle.name.specs.Listings.{placed}
-use Rattle.name.specs.Rows.{name_of}
 use Rattle.name.proofs.Passes.{passing}
 use Rattle.name.proofs.listing.pass.Given as goal
 
-abbrev pub invariant-loop-i : goal.invariant-loop-i
-invariant-loop-i l = passing (map name_of l.names) l.i (name_of l.last) ≡ placed (name_of l.initial.last) (map name_of l.initial.names)
+-- the names passed, and what is still to be placed among the others
+abbrev pub invariant-loop-here : goal.invariant-loop-here
+invariant-loop-here l =
+    passing l.here-items l.here-index l.last ≡ placed l.fn.name l.fn.names

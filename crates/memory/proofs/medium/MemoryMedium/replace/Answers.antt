@@ -1,34 +1,9 @@
-use Rattle.std.proofs.Common.{ap, arith}
-use Rattle.content.specs.Contents.{bytes_of}
-use Rattle.store.specs.Meaning.{with_durable, with_files}
-use Rattle.store.specs.Durable.{generated}
-use Rattle.memory.specs.Volumes.{volume_of}
-use Rattle.memory.proofs.Found.{file-below, file-amended, keep-ok, keep-missing, keep-absent}
+use Rattle.std.proofs.Common.{rules}
+use Rattle.store.specs.declared.file.File.{File}
+use Rattle.store.specs.Meaning.{with_durable}
+use Rattle.memory.proofs.Changes.{changed-by}
 use Rattle.memory.proofs.medium.MemoryMedium.replace.Goals as goal
 
-pub returns-in_default : goal.returns-in_default
-returns-in_default c =
-    let m = c.args.self.now in
-    record {
-      answer = keep-missing m c.args.generation c.in_default.ensures;
-      state = keep-absent m c.args.generation c.in_default.ensures (λ f. with_durable f (bytes_of c.args.live.now));
-    }
-
-pub offset_bounds-files-i : goal.offset_bounds-files-i
-offset_bounds-files-i c = omega (arith, file-below c.args.self.now (generated c.args.generation) c.in-Some.i c.in-Some.ensures)
-
-pub listed : goal.listed
-listed c = omega (arith, file-below c.args.self.now (generated c.args.generation) c.in-Some.i c.in-Some.ensures)
-
-pub bounds-files-i : goal.bounds-files-i
-bounds-files-i c = omega (arith, file-below c.args.self.now (generated c.args.generation) c.in-Some.i c.in-Some.ensures)
-
-pub returns : goal.returns
-returns c =
-    let m = c.args.self.now in
-    record {
-      answer = keep-ok m c.args.generation c.in-Some.i c.index-files-i.result c.in-Some.ensures c.index-files-i.is;
-      state = ap (with_files (volume_of m))
-          (file-amended m (generated c.args.generation) c.in-Some.i c.in-Some.ensures c.index-files-i.result c.replace.new.self
-          (λ f. with_durable f (bytes_of c.args.live.now)) c.replace.ensures);
-    }
+pub returns-clause-state : goal.returns-clause-state
+returns-clause-state c =
+    changed-by _ c.args.self.now c.change.new.self c.args.generation (λ (f : File). with_durable f c.args.live.now) c.change.ensures.state (λ f f' r. search rules)

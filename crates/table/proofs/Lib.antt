@@ -1,4 +1,0 @@
-pub mod Uses
-pub mod Finds
-pub mod Places
-pub mod Keys
