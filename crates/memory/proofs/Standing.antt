@@ -21,10 +21,6 @@ none-err : {A : Type 0} (o : Option A) (f e : Fault) → ok_or o f ≡ Err e →
 none-err None f e h = (refl, cc)
 none-err (Some x) f e h = absurd (let z : ◌≡◌ {A = ℕ} 0 1 = cc in omega arith)
 
-some-apart : {A : Type 0} (o : Option A) (f e : Fault) → is_some o ≡ true → ok_or o f ≡ Err e → ⊥
-some-apart None f e s h = let z : ◌≡◌ {A = ℕ} 0 1 = cc in omega arith
-some-apart (Some x) f e s h = let z : ◌≡◌ {A = ℕ} 0 1 = cc in omega arith
-
 err-same : {A : Type 0} (e f : Fault) → ◌≡◌ {A = Result A Fault} (Err e) (Err f) → e ≡ f
 err-same e f h = cc
 

@@ -1,7 +1,6 @@
 -- A listing as it is written into an area.
-use Rattle.std.proofs.Common.{◌≡◌, ℕ, ◌+◌, ◌-◌, ◌*◌, ◌<◌, ◌≤◌, List, [], ◌∷◌, ◌++◌, length, get_or, take, drop, set, sym, refl, ap, ◌∙◌, arith}
-use borrow.Rule.Slice.PartMut.{put_mid}
-use Rattle.std.proofs.lemmas.List.{append_assoc, take_at, take_more, take_more_set, drop-drop, drop-set-lt, flat_map_more, length-append, take_all}
+use Rattle.std.proofs.Common.{◌≡◌, ℕ, ◌+◌, ◌*◌, ◌<◌, ◌≤◌, List, [], ◌∷◌, ◌++◌, length, get_or, take, drop, sym, refl, ap, ◌∙◌, arith}
+use Rattle.std.proofs.lemmas.List.{append_assoc, take_at, take_more, flat_map_more, length-append, take_all}
 use Rattle.std.proofs.lemmas.Slice.{drop-append-drop}
 use Rattle.name.specs.Listings.{listing, first}
 
@@ -21,15 +20,6 @@ first_more bs e area was new at n w h =
     ap (drop (at + length e)) w ∙ drop-append-drop (length bs) area bs (at + length e) (omega arith) refl in
     let l : length (bs ++ e) ≡ at + length e = length-append bs e ∙ ap (λ k. k + length e) (sym n) in
     h ∙ rw (t, d, l) (sym (append_assoc bs e (drop (at + length e) area)))
-
--- a byte and then a stretch behind it
-pub byte-then : (area ys n : List ℕ) (b at from end : ℕ) → from ≡ at + 1 → end ≡ from + length n → end ≤ length area → ys ≡ n
-    → put_mid from (end - from) (set area at b) ys ≡ take at area ++ ((b ∷ n) ++ drop end area)
-byte-then area ys n b at from end f e h s =
-    let t : take from (set area at b) ≡ take at area ++ (b ∷ []) = ap (λ k. take k (set area at b)) f ∙ take_more_set area at b (omega arith) in
-    let d : drop (end - from) (drop from (set area at b)) ≡ drop end area =
-    drop-drop (end - from) from (set area at b) ∙ ap (λ k. drop k (set area at b)) (omega arith) ∙ drop-set-lt end area at b (omega arith) in
-    rw (t, d, s) (append_assoc (take at area) (b ∷ []) (n ++ drop end area))
 
 -- the first i names stand in an area
 pub record Listed (ns : List (List ℕ)) (i : ℕ) (area now : List ℕ) (at : ℕ) : Type 0 where

@@ -26,7 +26,3 @@ module _ {A : Type 0} (xs : List A) (i : ℕ) (ds : List A) (d new : A) (same : 
         → refill (length xs) xs (set ds i new) ≡ when_ok r (amended p g xs) xs
     row-answered (Ok b) e = row-changed e
     row-answered (Err f) e = row-kept e
-
--- rows written back whole are what was written
-pub refill_same : {A : Type 0} (xs ys : List A) → length ys ≡ length xs → refill (length xs) xs ys ≡ ys
-refill_same xs ys h = items-with_items (record { items = xs }) ys h

@@ -53,7 +53,7 @@ end_met end = cond (nat_le end limit) None (Some NoSpace)
 abbrev pub write_met : Handle → ℕ → ℕ → Option Fault
 write_met h offset len = cond (nat_lt write_limit len) (Some TooLong) (end_met (offset + len + h.header))
 
--- NoHandle comes first
+-- what a write on a handle's number meets: NoHandle, then what the handle meets
 abbrev pub write_fault : List Handle → ℕ → ℕ → ℕ → Option Fault
 write_fault hs n offset len = when_some (handle_at hs n) (λ h. write_met h offset len) (Some NoHandle)
 
@@ -61,7 +61,7 @@ write_fault hs n offset len = when_some (handle_at hs n) (λ h. write_met h offs
 abbrev pub resize_met : Handle → ℕ → Option Fault
 resize_met h len = end_met (len + h.header)
 
--- NoHandle, then NoSpace
+-- what a resize on a handle's number meets: NoHandle, then what the handle meets
 abbrev pub resize_fault : List Handle → ℕ → ℕ → Option Fault
 resize_fault hs n len = when_some (handle_at hs n) (λ h. resize_met h len) (Some NoHandle)
 
@@ -73,7 +73,7 @@ read_of h offset len =
     (cond (nat_le (offset + len + h.header) (length h.live)) (Ok tt) (Err InsufficientLength))
     (Err ReadOverflow)
 
--- NoHandle comes first
+-- what a read on a handle's number answers: NoHandle, then what the handle answers
 abbrev pub read_answer : List Handle → ℕ → ℕ → ℕ → Done
 read_answer hs n offset len = when_some (handle_at hs n) (λ h. read_of h offset len) (Err NoHandle)
 
