@@ -1,23 +1,20 @@
 //! The bytes of a file or of an open handle, and how they change.
 ghost use Rattle.std.specs.Prelude.{◌≡◌, ◌+◌, ◌≤◌, [], length, nat_le};
-ghost use Rattle.content.specs.Bytes.{limit, filled, written, cut, within};
+ghost use Rattle.content.specs.Bytes.{limit, written, cut, within};
 ghost use Rattle.content.specs.Patches.{lay};
 
 use super::patch::Patch;
-use arrayvec::ArrayVec;
+use row::Row;
 use std::marker::Model;
 use std::slice;
 
 /// The most bytes that a file holds, header included.
 pub const LIMIT: usize = 1016;
 
-/// As many zeros as a content can be filled with.
-const ZEROS: [u8; LIMIT] = [0; LIMIT];
-
 /// The bytes of a file or of an open handle, header included.
-#[derive(Default, Drop)]
+#[derive(Clone, Copy, Default)]
 pub struct Content {
-    bytes: ArrayVec<u8, LIMIT>,
+    bytes: Row<LIMIT>,
 }
 
 impl Model for Content {
@@ -25,7 +22,9 @@ impl Model for Content {
 
     ghost Value = { List ℕ };
 
-    ghost view = { λ c. c.bytes.items };
+    ghost view = { λ c. c.bytes };
+
+    ghost inverse = { λ bs. record { bytes = bs } };
 }
 
 // Each change is one by its own definition: what they share is the limit, in the definitions' word `within`. A place and bytes
@@ -36,12 +35,10 @@ impl Content {
     pub fn new() -> Self
         ensures { result ≡ [] }
     {
-        Content {
-            bytes: ArrayVec::new(),
-        }
+        Content { bytes: Row::new() }
     }
 
-    // One line over the library's, as `len` below: the vector is private.
+    // One line over the row's, as `len` below: the row is private.
     pub fn as_slice(&self) -> &[u8]
         ensures value { result.now ≡ self.now }
         ensures fits { length result.now ≤ limit }
@@ -59,13 +56,13 @@ impl Content {
     pub fn replace(&mut self, bytes: &[u8])
         ensures { self.new ≡ within (length bytes.now) bytes.now self.old }
     {
-        if let Ok(bytes) = ArrayVec::try_from(bytes) {
-            self.bytes = bytes;
+        if bytes.len() <= LIMIT {
+            self.bytes.set(bytes);
         }
     }
 
     /// The bytes of another content in the place of these.
-    // A `clone` of the library may fail for want of memory, so this copies in place.
+    // As far as they go: a copy of the value copies the zeros behind them too.
     pub fn copy_from(&mut self, other: &Content)
         ensures { self.new ≡ other.now }
     {
@@ -87,8 +84,7 @@ impl Content {
         ensures { self.new ≡ within len (cut len self.old) self.old }
     {
         if len <= LIMIT {
-            self.fill(len);
-            self.bytes.truncate(len);
+            self.bytes.resize(len);
         }
     }
 
@@ -102,22 +98,12 @@ impl Content {
         }
     }
 
-    /// Zeros up to a length, where the content is shorter.
-    fn fill(&mut self, len: usize)
-        requires { len ≤ limit }
-        ensures { self.new ≡ filled len self.old }
-    {
-        let missing = len.saturating_sub(self.bytes.len());
-        let _fits = self.bytes.try_extend_from_slice(&ZEROS[..missing]);
-    }
-
+    #[tactic(auto, unfolding(crate::specs::Bytes::written))]
     fn put(&mut self, at: usize, bytes: &[u8])
         requires { at + length bytes.now ≤ limit }
         ensures { self.new ≡ written self.old at bytes.now }
     {
-        let end = at + bytes.len();
-        self.fill(end);
-        self.bytes[at..end].copy_from_slice(bytes);
+        self.bytes.put(at, bytes);
     }
 
     #[tactic(auto, using(crate::proofs::Lays::lay_turns))]

@@ -7,11 +7,11 @@ ghost use Rattle.store.specs.Meaning.{permitted, when_ok};
 ghost use Rattle.store.specs.Live.{numbered, handle_at, handles_full, handles_with, generation_of, held_fault, write_fault, resize_fault, read_answer, read_area, live_written, live_resized, closed};
 ghost use Rattle.handles.specs.Held.{holding};
 
-use arrayvec::ArrayVec;
 use fault::Fault;
 use std::marker::Model;
 use store::handle::Handle;
 use store::opening::Opening;
+use table::Table;
 
 /// The most handles held at once.
 pub const HANDLE_LIMIT: usize = 8;
@@ -22,18 +22,18 @@ pub const ISSUE_LIMIT: u64 = 1_000_000;
 /// The handles held, in the order of their opening, and how many were issued.
 #[derive(Drop)]
 pub struct Handles {
-    held: ArrayVec<Handle, HANDLE_LIMIT>,
+    held: Table<Handle, HANDLE_LIMIT>,
     issued: u64,
 }
 
 impl Model for Handles {
-    ghost use Rattle.std.specs.Prelude.{◌≤◌};
+    ghost use Rattle.std.specs.Prelude.{◌≤◌, take};
     ghost use Rattle.store.specs.Live.{issue_limit};
     ghost use Rattle.handles.specs.Held.{Held};
 
     ghost Value = { Held };
 
-    ghost view = { λ t. record { handles = t.held.items; issued = t.issued } };
+    ghost view = { λ t. record { handles = take t.held.count t.held.rows; issued = t.issued } };
 
     ghost invariant = { λ t. t.issued ≤ issue_limit };
 }
@@ -45,7 +45,7 @@ impl Handles {
         ensures { result ≡ record { handles = []; issued = 0 } }
     {
         Handles {
-            held: ArrayVec::new(),
+            held: Table::new(),
             issued: 0,
         }
     }
@@ -65,18 +65,24 @@ impl Handles {
         self.held.clear();
     }
 
-    /// The place of a handle, for what changes the vector; `get` gives the handle itself.
+    /// The place of a handle, for what changes the table; `get` gives the handle itself.
     fn find(&self, number: u64) -> Option<usize>
         ensures { result ≡ position (numbered number) self.now.handles }
     {
-        self.held.iter().position(|handle| handle.number == number)
+        self.held
+            .as_slice()
+            .iter()
+            .position(|handle| handle.number == number)
     }
 
     /// A handle that is held.
     pub fn get(&self, number: u64) -> Option<&Handle>
         ensures { option_map (λ h. h.now) result ≡ handle_at self.now.handles number }
     {
-        self.held.iter().find(|handle| handle.number == number)
+        self.held
+            .as_slice()
+            .iter()
+            .find(|handle| handle.number == number)
     }
 
     /// A handle that a call names.
@@ -152,33 +158,66 @@ impl Handles {
     }
 
     /// Writes live bytes.
-    #[tactic(auto, using(store::proofs::Finds::found_at, store::proofs::Finds::found_none))]
     pub fn write(&mut self, number: u64, offset: u64, bytes: &[u8]) -> Result<(), Fault>
         ensures answer { result ≡ permitted (write_fault self.old.handles number offset (length bytes.now)) }
         ensures state { self.new ≡ when_ok result (holding self.old (live_written self.old.handles number offset bytes.now)) self.old }
     {
-        let i = self.find(number).ok_or(Fault::NoHandle)?;
-        self.held[i].write(offset, bytes)
+        self.ask_write(number, offset, bytes.len())?;
+        self.put(number, offset, bytes);
+        Ok(())
     }
 
     /// Cuts or zero-fills the live bytes.
-    #[tactic(auto, using(store::proofs::Finds::found_at, store::proofs::Finds::found_none))]
     pub fn resize(&mut self, number: u64, len: u64) -> Result<(), Fault>
         ensures answer { result ≡ permitted (resize_fault self.old.handles number len) }
         ensures state { self.new ≡ when_ok result (holding self.old (live_resized self.old.handles number len)) self.old }
     {
-        let i = self.find(number).ok_or(Fault::NoHandle)?;
-        self.held[i].resize(len)
+        self.ask_resize(number, len)?;
+        self.set_len(number, len);
+        Ok(())
     }
 
     /// Ends a handle.
-    #[tactic(auto, using(store::proofs::Finds::found_at, store::proofs::Finds::found_none, store::proofs::Finds::without_at, store::proofs::Finds::without_none))]
     pub fn close(&mut self, number: u64) -> Result<(), Fault>
         ensures answer { result ≡ permitted (held_fault self.old.handles number) }
         ensures state { self.new ≡ holding self.old (closed self.old.handles number) }
     {
-        let i = self.find(number).ok_or(Fault::NoHandle)?;
-        self.held.remove(i);
-        Ok(())
+        let asked = self.ask(number);
+        self.end(number);
+        asked
+    }
+
+    // Each change is one by itself, behind its question, so that its wrong place is refused by what it says.
+
+    /// Puts live bytes of a handle.
+    fn put(&mut self, number: u64, offset: u64, bytes: &[u8])
+        requires { write_fault self.old.handles number offset (length bytes.now) ≡ None }
+        ensures { self.new ≡ holding self.old (live_written self.old.handles number offset bytes.now) }
+    {
+        if let Some(i) = self.find(number) {
+            let held = &mut self.held;
+            let _fits = held.rows[i].write(offset, bytes);
+        }
+    }
+
+    /// Cuts or zero-fills the live bytes of a handle.
+    fn set_len(&mut self, number: u64, len: u64)
+        requires { resize_fault self.old.handles number len ≡ None }
+        ensures { self.new ≡ holding self.old (live_resized self.old.handles number len) }
+    {
+        if let Some(i) = self.find(number) {
+            let held = &mut self.held;
+            let _fits = held.rows[i].resize(len);
+        }
+    }
+
+    /// Ends a handle, if it is held.
+    #[tactic(auto, using(store::proofs::Finds::without_at, store::proofs::Finds::without_none))]
+    fn end(&mut self, number: u64)
+        ensures { self.new ≡ holding self.old (closed self.old.handles number) }
+    {
+        if let Some(i) = self.find(number) {
+            self.held.remove(i);
+        }
     }
 }

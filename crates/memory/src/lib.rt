@@ -1,4 +1,4 @@
-//! The medium in memory: partitions and files in two vectors of fixed capacity.
+//! The medium in memory: a table of partitions and one of files.
 #![tactic(auto)]
 
 mod medium;

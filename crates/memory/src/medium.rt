@@ -1,8 +1,8 @@
 //! The medium over the partitions and files in memory.
-ghost use Rattle.std.specs.Prelude.{◌≡◌, ◌≤◌, false, [], ◌∷◌, ◌++◌, length, if◌then◌else◌, Ok};
+ghost use Rattle.std.specs.Prelude.{◌≡◌, ◌≤◌, false, not, [], ◌∷◌, ◌++◌, length, take, filter, if◌then◌else◌, Ok};
 ghost use Rattle.name.specs.Listings.{first};
 ghost use Rattle.store.specs.Meaning.{with_files};
-ghost use Rattle.store.specs.Durable.{keep_answer, partition_stands, name_too_long, open_too_long, opened_file, opening_of, new_file, file_stands};
+ghost use Rattle.store.specs.Durable.{keep_answer, crash_written, crash_resized, in_partition, partition_stands, name_too_long, open_too_long, opened_file, opening_of, new_file, file_stands};
 ghost use Rattle.std.specs.Fn.{FnOnceReturnsAtMut};
 ghost use Rattle.memory.specs.Changes.{IsChanged};
 ghost use Rattle.memory.specs.Seeks.{with_partitions, partition_crowded, file_crowded};
@@ -56,6 +56,16 @@ impl Memory {
         Ok(opening)
     }
 
+    /// Removes the files of a partition.
+    fn keep_others(&mut self, partition: &[u8])
+        ensures { self.new ≡ with_files self.old (filter (λ f. not (in_partition partition.now f)) self.old.files) }
+    {
+        let count = self.files.count;
+        let files = &mut self.files;
+        let others = keep_others(&mut files.rows[..count], partition);
+        files.count = others;
+    }
+
     /// Changes the file of a generation, if it stands.
     fn change<F: FnOnce(&mut File)>(&mut self, generation: u64, change: F) -> Result<(), Fault>
         requires { F.IsAlwaysCallable change }
@@ -63,9 +73,47 @@ impl Memory {
         ensures state { IsChanged (FnOnceReturnsAtMut F.FnOnce change) self.old generation self.new }
     {
         let i = self.find_generation(generation).ok_or(Fault::BlobMissing)?;
-        change(&mut self.files[i]);
+        let files = &mut self.files;
+        change(&mut files.rows[i]);
         Ok(())
     }
+}
+
+// What a crash keeps, in functions of their own, so that a wrong generation or place is refused by what they say.
+impl Memory {
+    /// Stores a patch in the file of a generation, if it stands.
+    // No closure as in the other changes: a caller learns nothing of one that captures a patch.
+    fn lay(&mut self, generation: u64, offset: u64, patch: &Patch<'_>)
+        ensures { self.new ≡ crash_written self.old generation offset patch.now }
+    {
+        if let Some(i) = self.find_generation(generation) {
+            let files = &mut self.files;
+            files.rows[i].lay(offset, patch);
+        }
+    }
+
+    /// Cuts or zero-fills the file of a generation, if it stands.
+    fn cut(&mut self, generation: u64, len: u64)
+        ensures { self.new ≡ crash_resized self.old generation len }
+    {
+        let _found = self.change(generation, |file| file.resize(len));
+    }
+}
+
+/// Moves the files of other partitions to the front, in their order, and gives how many they are.
+fn keep_others(files: &mut [File], partition: &[u8]) -> usize
+    ensures few { result ≤ length files.old }
+    ensures front { take result files.new ≡ filter (λ f. not (in_partition partition.now f)) files.old }
+{
+    let mut others = 0;
+    for i in 0..files.len() {
+        let file = files[i];
+        if file.is_outside(partition) {
+            files[others] = file;
+            others += 1;
+        }
+    }
+    others
 }
 
 /// Puts some bytes first in an area and gives how many; the rest of the area stays.
@@ -135,7 +183,7 @@ impl Medium for Memory {
         check_remove_partition(partition)?;
         let i = self.seek_partition(partition)?;
         self.partitions.remove(i);
-        self.files.retain(|file| file.is_outside(partition));
+        self.keep_others(partition);
         Ok(())
     }
 
@@ -164,17 +212,14 @@ impl Medium for Memory {
     fn look(&self, partition: &[u8], name: &[u8], area: &mut [u8]) -> Result<usize, Fault> {
         check_look(partition, name, area.len())?;
         let i = self.seek(partition, name)?;
-        Ok(put_first(area, self.files[i].durable.as_slice()))
+        Ok(put_first(area, self.files.as_slice()[i].durable.as_slice()))
     }
 
     fn crash_write(&mut self, generation: u64, offset: u64, patch: &Patch<'_>) {
-        // No closure as in the other changes: a caller learns nothing of one that captures a patch.
-        if let Some(i) = self.find_generation(generation) {
-            self.files[i].lay(offset, patch);
-        }
+        self.lay(generation, offset, patch);
     }
 
     fn crash_resize(&mut self, generation: u64, len: u64) {
-        let _found = self.change(generation, |file| file.resize(len));
+        self.cut(generation, len);
     }
 }

@@ -8,30 +8,31 @@ ghost use Rattle.store.specs.Meaning.{empty_volume};
 ghost use Rattle.store.specs.Durable.{named, generated, file_at, in_partition, partition_stands, crowded};
 ghost use Rattle.memory.specs.Seeks.{partition_place, file_place, partition_crowded, file_crowded};
 
-use arrayvec::ArrayVec;
 use fault::Fault;
 use name::{Listing, Name, is_partition};
 use std::marker::Model;
 use store::file::File;
 use store::limits::{FILE_LIMIT, PARTITION_LIMIT};
+use table::Table;
 
 /// Partitions and files, each in the order of their making.
 #[derive(Drop)]
 pub struct Memory {
-    pub(crate) partitions: ArrayVec<Name, PARTITION_LIMIT>,
-    pub(crate) files: ArrayVec<File, FILE_LIMIT>,
+    pub(crate) partitions: Table<Name, PARTITION_LIMIT>,
+    pub(crate) files: Table<File, FILE_LIMIT>,
 }
 
 impl Model for Memory {
+    ghost use Rattle.std.specs.Prelude.{take};
     ghost use Rattle.store.specs.Meaning.{Volume};
 
     ghost Value = { Volume };
 
-    ghost view = { λ m. record { partitions = m.partitions.items; files = m.files.items } };
+    ghost view = { λ m. record { partitions = take m.partitions.count m.partitions.rows; files = take m.files.count m.files.rows } };
 }
 
-// A partition is one name in one vector, a file two names in another: their searches share `position`, and no more. They give a
-// place and no reference, since a removal needs the vector.
+// A partition is one name in one table, a file two names in another: their searches share `position`, and no more. They give a
+// place and no reference, since a removal needs the table.
 impl Memory {
     /// No partition and no file.
     // No `Default` beside it: nothing asks for one.
@@ -39,8 +40,8 @@ impl Memory {
         ensures { result ≡ empty_volume }
     {
         Memory {
-            partitions: ArrayVec::new(),
-            files: ArrayVec::new(),
+            partitions: Table::new(),
+            files: Table::new(),
         }
     }
 
@@ -49,6 +50,7 @@ impl Memory {
         ensures { result ≡ position (λ q. bytes_eq q partition.now) self.now.partitions }
     {
         self.partitions
+            .as_slice()
             .iter()
             .position(|name| name.as_slice() == partition)
     }
@@ -58,6 +60,7 @@ impl Memory {
         ensures { result ≡ position (named partition.now name.now) self.now.files }
     {
         self.files
+            .as_slice()
             .iter()
             .position(|file| file.is_named(partition, name))
     }
@@ -67,15 +70,17 @@ impl Memory {
         ensures { result ≡ position (generated generation) self.now.files }
     {
         self.files
+            .as_slice()
             .iter()
             .position(|file| file.generation == generation)
     }
 
-    /// The file of a name; `find` gives its place, for what changes the vector.
+    /// The file of a name; `find` gives its place, for what changes the table.
     pub(crate) fn get(&self, partition: &[u8], name: &[u8]) -> Option<&File>
         ensures { option_map (λ f. f.now) result ≡ file_at self.now partition.now name.now }
     {
         self.files
+            .as_slice()
             .iter()
             .find(|file| file.is_named(partition, name))
     }

@@ -82,7 +82,7 @@ fn pass(names: &mut [Name], name: Name) -> Name
 {
     let mut last = name;
     for here in names {
-        if last < *here {
+        if last.is_before(here) {
             mem::swap(here, &mut last);
         }
     }

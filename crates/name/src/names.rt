@@ -1,17 +1,17 @@
 //! A name, of at most 16 bytes.
 ghost use Rattle.std.specs.Prelude.{◌≡◌, ◌≤◌, [], length, if◌then◌else◌, Ok, Err, nat_le};
 ghost use Rattle.fault.specs.declared.Fault.TheVariants.{TooLong};
-ghost use Rattle.name.specs.Names.{name_limit};
+ghost use Rattle.name.specs.Names.{before, name_limit};
 
 use super::letters::NAME_LIMIT;
-use arrayvec::ArrayVec;
 use fault::Fault;
+use row::Row;
 use std::marker::Model;
 
 /// The name of a partition or of a file, seen as its bytes. Names are ordered as their bytes are, a shorter prefix first.
-#[derive(Default, Drop, PartialEq, Eq, PartialOrd, Ord)]
+#[derive(Clone, Copy, Default, PartialEq, Eq, PartialOrd, Ord)]
 pub struct Name {
-    bytes: ArrayVec<u8, NAME_LIMIT>,
+    bytes: Row<NAME_LIMIT>,
 }
 
 impl Model for Name {
@@ -19,9 +19,9 @@ impl Model for Name {
 
     ghost Value = { List ℕ };
 
-    ghost view = { λ n. n.bytes.items };
+    ghost view = { λ n. n.bytes };
 
-    ghost inverse = { λ bs. record { bytes = record { items = bs } } };
+    ghost inverse = { λ bs. record { bytes = bs } };
 }
 
 impl Name {
@@ -30,18 +30,30 @@ impl Name {
     pub fn empty() -> Self
         ensures { result ≡ [] }
     {
-        Name {
-            bytes: ArrayVec::new(),
-        }
+        Name { bytes: Row::new() }
     }
 
-    // One line over the library's: the vector is private.
+    // One line over the row's: the row is private.
     pub fn as_slice(&self) -> &[u8]
         ensures value { result.now ≡ self.now }
         ensures fits { length result.now ≤ name_limit }
     {
         self.bytes.as_slice()
     }
+
+    /// Whether the name comes before another in ascending byte order, a shorter prefix first.
+    // The derived order is this one; here its definition stands in a contract.
+    pub fn is_before(&self, other: &Name) -> bool
+        ensures { result ≡ before self.now other.now }
+    {
+        less(self.as_slice(), other.as_slice())
+    }
+}
+
+fn less(a: &[u8], b: &[u8]) -> bool
+    ensures { result ≡ before a.now b.now }
+{
+    a < b
 }
 
 /// A name of these bytes, if they are at most 16.
@@ -51,18 +63,20 @@ impl TryFrom<&[u8]> for Name {
     ghost try_from_gives = { λ bytes r. r ≡ (if nat_le (length bytes.now) name_limit then Ok bytes.now else Err TooLong) };
 
     fn try_from(bytes: &[u8]) -> Result<Self, Fault> {
-        let bytes = ArrayVec::try_from(bytes).map_err(|_| Fault::TooLong)?;
-        Ok(Name { bytes })
+        if bytes.len() > NAME_LIMIT {
+            return Err(Fault::TooLong);
+        }
+        let mut name = Name::empty();
+        name.bytes.set(bytes);
+        Ok(name)
     }
 }
 
-/// The same bytes; a `clone` of the library may fail for want of memory, and this may not.
+/// The same bytes. A `clone` gives a `Result`, whose failure never comes here; this gives none.
 impl From<&Name> for Name {
     ghost from_gives = { λ other name. name ≡ other.now };
 
     fn from(other: &Name) -> Self {
-        let mut bytes = ArrayVec::new();
-        let _fits = bytes.try_extend_from_slice(other.as_slice());
-        Name { bytes }
+        *other
     }
 }

@@ -1,28 +1,18 @@
--- A write to the row at a place of a vector.
-use Rattle.std.proofs.Common.{◌≡◌, ℕ, Bool, List, length, get_or, set, Ok, Err, Result, sym, ap, ◌∙◌}
-use Rattle.std.specs.List.{refill}
-use Rattle.std.proofs.lemmas.List.{length-set, set-get_or}
-use Rattle.arrayvec.proofs.ArrayVecLemmas.{items-with_items}
-use Rattle.fault.specs.declared.Fault.{Fault}
-use Rattle.store.specs.Meaning.{when_ok}
+-- A change of the row at a place of a table.
+use Rattle.std.proofs.Common.{◌≡◌, ℕ, ◌<◌, Bool, List, get_or, take, set, sym, ap, ◌∙◌, arith}
+use Rattle.std.proofs.lemmas.List.{length-take, get_or-take}
+use lib.Seq.{take-set-lt}
 use Rattle.store.specs.Tables.{amended}
 use Rattle.store.proofs.Finds.{Found}
 
-module _ {A : Type 0} (xs : List A) (i : ℕ) (ds : List A) (d new : A) (same : ds ≡ xs) where
-  refilled : refill (length xs) xs (set ds i new) ≡ set ds i new
-  refilled = items-with_items (record { items = xs }) (set ds i new) (length-set ds i new ∙ ap length same)
+-- the first n rows are in use, and the first of them that passes is at a place
+module _ {A : Type 0} (rows : List A) (n i : ℕ) (d : A) (p : A → Bool) (at : Found p (take n rows) i) where
+  below : i < n
+  below = omega (arith, at.inside, length-take n rows)
 
-  -- the row is as it was
-  pub row-kept : new ≡ get_or ds i d → refill (length xs) xs (set ds i new) ≡ xs
-  row-kept e = refilled ∙ ap (set ds i) e ∙ set-get_or ds i d ∙ same
+  pub row-there : get_or (take n rows) i d ≡ get_or rows i d
+  row-there = get_or-take n rows i d below
 
-  module _ (p : A → Bool) (g : A → A) (at : Found p xs i) where
-    -- the first row that passes is changed
-    pub row-changed : new ≡ g (get_or ds i d) → refill (length xs) xs (set ds i new) ≡ amended p g xs
-    row-changed e = refilled ∙ ap (set ds i) e ∙ ap (λ zs. set zs i (g (get_or zs i d))) same ∙ sym (at.change g d)
-
-    -- it is changed where the answer is no fault
-    pub row-answered : {B : Type 0} (r : Result B Fault) → new ≡ when_ok r (g (get_or ds i d)) (get_or ds i d)
-        → refill (length xs) xs (set ds i new) ≡ when_ok r (amended p g xs) xs
-    row-answered (Ok b) e = row-changed e
-    row-answered (Err f) e = row-kept e
+  -- a change there changes the first row in use that passes
+  pub row-changed : (g : A → A) (new : A) → new ≡ g (get_or rows i d) → take n (set rows i new) ≡ amended p g (take n rows)
+  row-changed g new e = take-set-lt n rows i new below ∙ ap (set (take n rows) i) (e ∙ ap g (sym row-there)) ∙ sym (at.change g d)

@@ -14,7 +14,7 @@ use name::{Listing, Name};
 
 /// A file; its durable bytes begin with a header, whose length is fixed when the file is made. Its generation tells it from
 /// every other file ever made: a file made again under the same name has another one.
-#[derive(Default, Drop)]
+#[derive(Clone, Copy, Default)]
 pub struct File {
     pub partition: Name,
     pub name: Name,
@@ -45,12 +45,10 @@ impl File {
     pub fn opening(&self) -> Opening
         ensures { result ≡ opening_of self.now }
     {
-        let mut live = Content::new();
-        live.copy_from(&self.durable);
         Opening {
             generation: self.generation,
             header: self.header,
-            live,
+            live: self.durable,
         }
     }
 
@@ -80,7 +78,7 @@ impl File {
         ensures { names.new ≡ (if in_partition partition.now self.now && nat_lt (length names.old) 8 then placed self.now.name names.old else names.old) }
     {
         if self.is_in(partition) {
-            names.insert(Name::from(&self.name));
+            names.insert(self.name);
         }
     }
 

@@ -14,7 +14,7 @@ pub const WRITE_LIMIT: usize = 256;
 // definition.
 /// An open handle; its live bytes are its own copy, header included. It keeps the generation and the header length of the
 /// file that it was opened on.
-#[derive(Default, Drop)]
+#[derive(Clone, Copy, Default)]
 pub struct Handle {
     pub number: u64,
     pub generation: u64,

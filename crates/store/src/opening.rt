@@ -4,7 +4,7 @@ ghost use Rattle.std.specs.Prelude.{◌≡◌, ◌-◌, length};
 use content::Content;
 
 /// What a handle takes from the file that it is opened on: its generation, its header length and a copy of its durable bytes.
-#[derive(Drop)]
+#[derive(Clone, Copy)]
 pub struct Opening {
     pub generation: u64,
     pub header: usize,

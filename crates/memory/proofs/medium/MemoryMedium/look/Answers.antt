@@ -19,8 +19,8 @@ returns-clause-answer c =
     let n = c.args.name.now in
     let h = sym c.in_ok-i.ensures in
     let at = position_some (named p n) v.files c.in_ok-i.i (file_found v p n c.in_ok-i.i h) in
-    let ok = file_ok v p n c.in_ok-i.i h _ (at.it c.index-deref-i.result) (λ f. length f.durable) in
-    let it = at.it c.index-deref-i.result in
+    let ok = file_ok v p n c.in_ok-i.i h _ (at.it c.index-as_slice-i.result) (λ f. length f.durable) in
+    let it = at.it c.index-as_slice-i.result in
     grind (arith, common_steps)
 
 pub returns-clause-put : goal.returns-clause-put
@@ -30,6 +30,6 @@ returns-clause-put c =
     let n = c.args.name.now in
     let h = sym c.in_ok-i.ensures in
     let at = position_some (named p n) v.files c.in_ok-i.i (file_found v p n c.in_ok-i.i h) in
-    let ok = file_ok v p n c.in_ok-i.i h _ (at.it c.index-deref-i.result) (λ f. length f.durable) in
-    let it = at.it c.index-deref-i.result in
+    let ok = file_ok v p n c.in_ok-i.i h _ (at.it c.index-as_slice-i.result) (λ f. length f.durable) in
+    let it = at.it c.index-as_slice-i.result in
     grind (arith, common_steps)

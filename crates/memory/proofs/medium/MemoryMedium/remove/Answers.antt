@@ -1,6 +1,6 @@
-use Rattle.std.proofs.Common.{sym, arith}
+use Rattle.std.proofs.Common.{[], sym, arith}
 use Rattle.std.proofs.lemmas.Grind.{common_steps}
-use Rattle.store.specs.Durable.{named}
+use Rattle.store.specs.Durable.{named, new_file}
 use Rattle.store.proofs.Finds.{position_some}
 use Rattle.memory.proofs.Standing.{file_found, file_missing, file_ok}
 use Rattle.memory.proofs.medium.MemoryMedium.remove.Goals as goal
@@ -19,7 +19,7 @@ returns-clause-answer c =
     let n = c.args.name.now in
     let h = sym c.in_ok-i.ensures in
     let at = position_some (named p n) v.files c.in_ok-i.i (file_found v p n c.in_ok-i.i h) in
-    let ok = file_ok v p n c.in_ok-i.i h _ (at.it c.remove.result) (λ f. tt {0}) in
+    let ok = file_ok v p n c.in_ok-i.i h _ (at.it (new_file [] [] [] 0)) (λ f. tt {0}) in
     grind (arith, common_steps)
 
 pub returns-clause-state : goal.returns-clause-state
@@ -29,6 +29,6 @@ returns-clause-state c =
     let n = c.args.name.now in
     let h = sym c.in_ok-i.ensures in
     let at = position_some (named p n) v.files c.in_ok-i.i (file_found v p n c.in_ok-i.i h) in
-    let ok = file_ok v p n c.in_ok-i.i h _ (at.it c.remove.result) (λ f. tt {0}) in
+    let ok = file_ok v p n c.in_ok-i.i h _ (at.it (new_file [] [] [] 0)) (λ f. tt {0}) in
     let gone = at.removal in
     grind (arith, common_steps)

@@ -1,9 +1,6 @@
-use Rattle.std.proofs.Common.{not, rules, sym, arith}
+use Rattle.std.proofs.Common.{sym, arith}
 use Rattle.std.specs.Str.{bytes_eq}
 use Rattle.std.proofs.lemmas.Grind.{common_steps}
-use Rattle.store.specs.declared.file.File.{File}
-use Rattle.arrayvec.proofs.ArrayVecLemmas.{filter-from_retain}
-use Rattle.store.specs.Durable.{in_partition}
 use Rattle.store.proofs.Finds.{position_some}
 use Rattle.memory.proofs.Standing.{standing, standing_place}
 use Rattle.memory.proofs.medium.MemoryMedium.remove_partition.Goals as goal
@@ -15,5 +12,4 @@ returns-clause-state c =
     let h = sym c.in_ok-i.ensures in
     let at = position_some (λ q. bytes_eq q p) v.partitions c.in_ok-i.i (standing_place v p c.in_ok-i.i h) in
     let gone = at.removal in
-    let kept = filter-from_retain _ (λ (f : File). not (in_partition p f)) _ (λ x b f' y called. search rules) c.self.inside.files.items c.retain.new.self.items c.retain.ensures.filtered in
     grind (arith, common_steps, standing)

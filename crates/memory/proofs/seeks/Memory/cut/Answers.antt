@@ -2,7 +2,7 @@ use Rattle.std.proofs.Common.{rules}
 use Rattle.store.specs.declared.file.File.{File}
 use Rattle.store.specs.Durable.{file_cut}
 use Rattle.memory.proofs.Changes.{changed-by}
-use Rattle.memory.proofs.medium.MemoryMedium.crash_resize.Goals as goal
+use Rattle.memory.proofs.seeks.Memory.cut.Goals as goal
 
 pub returns : goal.returns
 returns c =
