@@ -28,7 +28,7 @@ impl Model for Content {
 }
 
 // Each change is one by its own definition: what they share is the limit, in the definitions' word `within`. A place and bytes
-// are what a definition takes.
+// are what a definition takes. The limit is tested here, as the manual has it; a row tests its capacity for any caller.
 impl Content {
     /// No bytes.
     // Beside `Default`, as in the library: `new` says its value where it is called.
@@ -62,7 +62,7 @@ impl Content {
     }
 
     /// The bytes of another content in the place of these.
-    // As far as they go: a copy of the value copies the zeros behind them too.
+    // Only the bytes in use; `*self = *other` would copy the zeros behind them too.
     pub fn copy_from(&mut self, other: &Content)
         ensures { self.new ≡ other.now }
     {

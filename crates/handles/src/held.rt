@@ -79,6 +79,13 @@ impl Handles {
     pub fn get(&self, number: u64) -> Option<&Handle>
         ensures { option_map (λ h. h.now) result ≡ handle_at self.now.handles number }
     {
+        self.lookup(number)
+    }
+
+    // What `get` gives, in a function of its own, so that another handle in its place is refused by what `get` says.
+    fn lookup(&self, number: u64) -> Option<&Handle>
+        ensures { option_map (λ h. h.now) result ≡ handle_at self.now.handles number }
+    {
         self.held
             .as_slice()
             .iter()
@@ -187,7 +194,7 @@ impl Handles {
         asked
     }
 
-    // Each change is one by itself, behind its question, so that its wrong place is refused by what it says.
+    // Each change is one by itself, behind its question, so that a wrong place is refused by what it asks or says.
 
     /// Puts live bytes of a handle.
     fn put(&mut self, number: u64, offset: u64, bytes: &[u8])

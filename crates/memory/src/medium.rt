@@ -57,7 +57,7 @@ impl Memory {
     }
 
     /// Removes the files of a partition.
-    fn keep_others(&mut self, partition: &[u8])
+    fn remove_files_in(&mut self, partition: &[u8])
         ensures { self.new ≡ with_files self.old (filter (λ f. not (in_partition partition.now f)) self.old.files) }
     {
         let count = self.files.count;
@@ -183,7 +183,7 @@ impl Medium for Memory {
         check_remove_partition(partition)?;
         let i = self.seek_partition(partition)?;
         self.partitions.remove(i);
-        self.keep_others(partition);
+        self.remove_files_in(partition);
         Ok(())
     }
 

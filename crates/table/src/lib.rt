@@ -13,6 +13,7 @@ pub struct Table<T, const CAP: usize> {
     ghost fits: { (count ≤ CAP) × (length rows ≡ CAP) },
 }
 
+// Rows are `Copy`, so that one may be forgotten where it stands.
 impl<T: Copy, const CAP: usize> Table<T, CAP> {
     /// No rows.
     pub fn new() -> Self
@@ -61,6 +62,13 @@ impl<T: Copy, const CAP: usize> Table<T, CAP> {
         }
     }
 
+    /// All rows go.
+    pub fn clear(&mut self)
+        ensures { take self.new.count self.new.rows ≡ [] }
+    {
+        self.count = 0;
+    }
+
     fn add(&mut self, row: T)
         requires { self.old.count < CAP }
         ensures { take self.new.count self.new.rows ≡ take self.old.count self.old.rows ++ (row ∷ []) }
@@ -69,13 +77,6 @@ impl<T: Copy, const CAP: usize> Table<T, CAP> {
         let rows = &mut self.rows[..];
         rows[count] = row;
         self.count = count + 1;
-    }
-
-    /// All rows go.
-    pub fn clear(&mut self)
-        ensures { take self.new.count self.new.rows ≡ [] }
-    {
-        self.count = 0;
     }
 }
 
@@ -88,7 +89,7 @@ pub fn retire<T>(rows: &mut [T], i: usize)
     }
 }
 
-/// The same among the first rows.
+/// Moves a row behind the others of the first ones, so that those before it are the ones without it.
 #[tactic(auto, using(crate::proofs::Uses::take_retired))]
 fn retire_in<T>(rows: &mut [T], count: usize, i: usize)
     requires { (i < count) × (count ≤ length rows.old) }
